@@ -1,0 +1,3 @@
+pub mod Limit
+pub mod Pages
+pub mod Spaced

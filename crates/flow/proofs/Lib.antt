@@ -1,0 +1,6 @@
+pub mod Walks
+pub mod Numbers
+pub mod Labels
+pub mod Refusing
+pub mod Soundness
+pub mod Loops

@@ -1,0 +1,14 @@
+pub mod Limits
+pub mod Tests
+pub mod Refusals
+pub mod Build
+pub mod Graph
+pub mod Drawn
+pub mod Closed
+pub mod Operators
+pub mod Line
+pub mod Sheet
+pub mod Held
+pub mod Sound
+pub mod Drafts
+pub mod Cases

@@ -1,0 +1,1 @@
+// Entering a formula line.

@@ -1,0 +1,39 @@
+// What a case holds.
+ghost use mathlib.Core.List.{map};
+ghost use mathlib.Core.Path.{_≡_};
+ghost use Rattle.flow.specs.Cases.{graph-in, lines-in};
+ghost use Rattle.flow.specs.Held.{label-of, line-of};
+use crate::case::Case;
+use crate::edge::Edge;
+use crate::label::Label;
+use crate::line::Line;
+
+impl Case {
+    /// How many states there are: they are the numbers below this.
+    pub fn states(&self) -> u32
+        ensures { λ r. ⌜ r ≡ graph-in (now (self .entry)) .states ⌝ }
+    {
+        self.states
+    }
+
+    /// The edges, those that were drawn first: the successors of a state are where its edges lead, in this order.
+    pub fn edges(&self) -> &[Edge]
+        ensures { λ r. ⌜ now r ≡ graph-in (now (self .entry)) .edges ⌝ }
+    {
+        self.edges.as_slice()
+    }
+
+    /// The labels, in the order of entry.
+    pub fn labels(&self) -> &[Label]
+        ensures { λ r. ⌜ map label-of (now r) ≡ graph-in (now (self .entry)) .labels ⌝ }
+    {
+        self.labels.as_slice()
+    }
+
+    /// The formula lines, by their numbers.
+    pub fn lines(&self) -> &[Line]
+        ensures { λ r. ⌜ map line-of (now r) ≡ lines-in (now (self .entry)) ⌝ }
+    {
+        self.lines.as_slice()
+    }
+}

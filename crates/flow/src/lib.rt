@@ -1,0 +1,10 @@
+pub mod arguments;
+pub mod draft;
+pub mod edge;
+pub mod label;
+pub mod limits;
+pub mod line;
+pub mod operator;
+pub mod refusal;
+pub mod room;
+pub mod case;

@@ -10,8 +10,8 @@ use Rattle.std.proofs.shelf.Lists.{map-push}
 -- one more label in the table, whose values are known, is one more in the graph
 module _ (old new : List stored.Label) (l : stored.Label) (ns : List ℕ) where
   pub labels-push :
-    new ≡ old ++ l ∷ [] → listed (l .values) ≡ ns
-    → map label-of new ≡ map label-of old ++ record { state = l .state; predicate = l .predicate; values = ns } ∷ []
+      new ≡ old ++ l ∷ [] → listed (l .values) ≡ ns
+      → map label-of new ≡ map label-of old ++ record { state = l .state; predicate = l .predicate; values = ns } ∷ []
   labels-push e f =
       let last : List ℕ → Label = λ vs. record { state = l .state; predicate = l .predicate; values = vs } in
       ap (map label-of) e ∙ map-push label-of old l ∙ ap (λ vs. map label-of old ++ last vs ∷ []) f

@@ -4,3 +4,5 @@ pub mod Labels
 pub mod Refusing
 pub mod Soundness
 pub mod Loops
+pub mod Entering
+pub mod Facts

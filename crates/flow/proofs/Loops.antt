@@ -15,7 +15,15 @@ use Rattle.flow.specs.Sound.{each-below, inside, sound, sound-closed}
 use Rattle.flow.specs.Tests.{any, every}
 use Rattle.flow.specs.declared.edge.Edge.{Edge}
 use Rattle.std.proofs.shelf.Tests.{
-  and-from, and-parts, cases-bool, cases-lt, cond-both, eq-eqb, or-from, or-left, or-right,
+  and-from,
+  and-parts,
+  cases-bool,
+  cases-lt,
+  cond-both,
+  eq-eqb,
+  or-from,
+  or-left,
+  or-right,
 }
 use Rattle.std.proofs.shelf.Ways.{tells}
 
@@ -93,19 +101,19 @@ module _ (es : List Edge) where
   leaves-loops (suc n) s h e =
       any-append (λ x. eqb (x .from) s) (loops es n) (loop es n)
       ∙ elim (cases-lt s n) [
-          | inl k ↦ or-left (leaves (loops es n) s) (leaves (loop es n) s) (leaves-loops n s k e)
-          | inr k ↦
-              let here : s ≡ n = omega arith in
-              or-right (leaves (loops es n) s) (leaves (loop es n) s) (ap (λ x. leaves (loop es x) s) (sym here) ∙ leaves-loop s e)
-        ]
+        | inl k ↦ or-left (leaves (loops es n) s) (leaves (loop es n) s) (leaves-loops n s k e)
+        | inr k ↦
+            let here : s ≡ n = omega arith in
+            or-right (leaves (loops es n) s) (leaves (loop es n) s) (ap (λ x. leaves (loop es x) s) (sym here) ∙ leaves-loop s e)
+      ]
 
   leaves-after : (n s : ℕ) → s < n → leaves (es ++ loops es n) s ≡ true
   leaves-after n s h =
       any-append (λ x. eqb (x .from) s) es (loops es n)
       ∙ elim (cases-bool (leaves es s)) [
-          | inl e ↦ or-left (leaves es s) (leaves (loops es n) s) e
-          | inr e ↦ or-right (leaves es s) (leaves (loops es n) s) (leaves-loops n s h e)
-        ]
+        | inl e ↦ or-left (leaves es s) (leaves (loops es n) s) e
+        | inr e ↦ or-right (leaves es s) (leaves (loops es n) s) (leaves-loops n s h e)
+      ]
 
 each-below-from : (p : ℕ → Bool) (n : ℕ) → ((k : ℕ) → k < n → p k ≡ true) → each-below p n ≡ true
 each-below-from p zero f = refl

@@ -19,6 +19,9 @@ use Rattle.flow.specs.declared.line.Line.the-variants.{
   SomeNext,
   SomeUntil,
 }
+use Rattle.flow.specs.declared.refusal.Refusal.{Refusal}
+use Rattle.std.specs.declared.result.Result.{Result}
+use Rattle.std.specs.declared.result.Result.the-variants.{Err, Ok}
 
 unfoldable pub listed : Arguments → List ℕ
 listed a = take (a .count) (a .numbers)
@@ -39,3 +42,8 @@ line-of (AllNext a) = sheet.all-next a
 line-of (SomeNext a) = sheet.some-next a
 line-of (AllUntil a b) = sheet.all-until a b
 line-of (SomeUntil a b) = sheet.some-until a b
+
+-- a line that was asked for, or the refusal
+abbrev pub asked-of : Result written.Line Refusal → Result sheet.Line Refusal
+asked-of (Ok l) = Ok (line-of l)
+asked-of (Err r) = Err r

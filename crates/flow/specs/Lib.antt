@@ -12,3 +12,4 @@ pub mod Held
 pub mod Sound
 pub mod Drafts
 pub mod Cases
+pub mod Facts

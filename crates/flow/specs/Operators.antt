@@ -17,6 +17,7 @@ use Rattle.flow.specs.declared.operator.Operator.the-variants.{
   SomeNext,
   SomeUntil,
 }
+use Rattle.flow.specs.declared.operator.Shape.{Shape}
 use Rattle.std.specs.declared.option.Option.{Option}
 use Rattle.std.specs.declared.option.Option.the-variants.{None, Some}
 
@@ -55,6 +56,9 @@ most AllNext = 1
 most SomeNext = 1
 most AllUntil = 2
 most SomeUntil = 2
+
+abbrev pub shape-of : Operator → Shape
+shape-of o = record { operator = o; fewest = fewest o; most = most o }
 
 -- the count of numbers is right
 abbrev pub counted : Operator → List ℕ → Bool

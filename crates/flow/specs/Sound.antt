@@ -8,7 +8,12 @@ use Prim.Native.Nat.{ℕ, _+_, suc, zero}
 use Rattle.flow.specs.Closed.{leaves}
 use Rattle.flow.specs.Graph.{Graph, Label}
 use Rattle.flow.specs.Limits.{
-  most-arguments, most-closed-edges, most-edges, most-labels, most-states, predicates,
+  most-arguments,
+  most-closed-edges,
+  most-edges,
+  most-labels,
+  most-states,
+  predicates,
 }
 use Rattle.flow.specs.Line.{Line}
 use Rattle.flow.specs.Sheet.{right}
@@ -44,12 +49,14 @@ each-below p (suc n) = p n && each-below p n
 abbrev pub leading : Graph → Bool
 leading g = each-below (leaves (g .edges)) (g .states)
 
+-- a closed graph holds no more than it may
+abbrev pub bounded : Graph → Bool
+bounded g =
+    leb (g .states) most-states && (leb (length (g .edges)) most-closed-edges && leb (length (g .labels)) most-labels)
+
 -- what holds of every closed graph
 unfoldable pub sound-closed : Graph → Bool
-sound-closed g =
-    (leb (g .states) most-states
-        && (leb (length (g .edges)) most-closed-edges && leb (length (g .labels)) most-labels))
-    && (joined-up g && leading g)
+sound-closed g = bounded g && (joined-up g && leading g)
 
 -- each line is right where it stands, the first of them after n others
 abbrev pub right-from : ℕ → List Line → Bool

@@ -2,6 +2,7 @@
 ghost use mathlib.Core.List.{map};
 ghost use mathlib.Core.Path.{_≡_};
 ghost use Rattle.flow.specs.Cases.{graph-in, lines-in};
+ghost use Rattle.flow.specs.Facts.{Ordered};
 ghost use Rattle.flow.specs.Held.{label-of, line-of};
 use crate::case::Case;
 use crate::edge::Edge;
@@ -32,7 +33,8 @@ impl Case {
 
     /// The formula lines, by their numbers.
     pub fn lines(&self) -> &[Line]
-        ensures { λ r. ⌜ map line-of (now r) ≡ lines-in (now (self .entry)) ⌝ }
+        ensures sheet { λ r. ⌜ map line-of (now r) ≡ lines-in (now (self .entry)) ⌝ }
+        ensures ordered { λ _. ⌜ Ordered (lines-in (now (self .entry))) ⌝ }
     {
         self.lines.as_slice()
     }

@@ -4,6 +4,7 @@ ghost use mathlib.Core.Path.{_≡_};
 ghost use Rattle.flow.specs.Cases.{graph-in, lines-in};
 ghost use Rattle.flow.specs.Closed.{closed};
 ghost use Rattle.flow.specs.Drafts.{drawn-in};
+ghost use Rattle.flow.specs.Facts.{Closed-graph};
 use crate::case::Case;
 use crate::draft::Draft;
 use crate::draft::hunting::left_from;
@@ -14,6 +15,7 @@ impl Draft {
     pub fn close(self) -> Case
         ensures graph { λ r. ⌜ graph-in r ≡ closed (drawn-in self) ⌝ }
         ensures sheet { λ r. ⌜ lines-in r ≡ [] ⌝ }
+        ensures facts { λ r. ⌜ Closed-graph (graph-in r) ⌝ }
     {
         let Draft {
             states,

@@ -11,6 +11,7 @@ use lib.Dec.{eqb}
 use lib.ListN.{length, length-append}
 use Rattle.flow.specs.Closed.{closed, leaves, loop, loops}
 use Rattle.flow.specs.Graph.{Graph}
+use Rattle.flow.specs.Limits.{most-closed-edges, most-labels}
 use Rattle.flow.specs.Sound.{each-below, inside, sound, sound-closed}
 use Rattle.flow.specs.Tests.{any, every}
 use Rattle.flow.specs.declared.edge.Edge.{Edge}
@@ -132,3 +133,12 @@ sound-once-closed g s =
     let more = length-loops es n in
     let total = length-append es (loops es n) in
     grind (arith, tells)
+
+module _ (g : Graph) (s : sound-closed g ≡ true) where
+  pub bounded-edges : length (g .edges) ≤ most-closed-edges
+  unfolding sound-closed
+  bounded-edges = grind (arith, tells)
+
+  pub bounded-labels : length (g .labels) ≤ most-labels
+  unfolding sound-closed
+  bounded-labels = grind (arith, tells)

@@ -1,5 +1,5 @@
 -- Formula lines: an operator with its operands, which are lines named by their numbers.
-use mathlib.Core.List.{List}
+use mathlib.Core.List.{List, [], _∷_}
 use Prim.Native.Nat.{ℕ}
 use lib.ListN.{drop, getD}
 use Rattle.flow.specs.declared.operator.Operator.{Operator}
@@ -38,3 +38,15 @@ operator (all-next a) = op.AllNext
 operator (some-next a) = op.SomeNext
 operator (all-until a b) = op.AllUntil
 operator (some-until a b) = op.SomeUntil
+
+-- the numbers that a line was entered with
+abbrev pub numbers : Line → List ℕ
+numbers (predicate p xs) = p ∷ xs
+numbers (and a b) = a ∷ b ∷ []
+numbers (or a b) = a ∷ b ∷ []
+numbers (not a) = a ∷ []
+numbers (exists x a) = x ∷ a ∷ []
+numbers (all-next a) = a ∷ []
+numbers (some-next a) = a ∷ []
+numbers (all-until a b) = a ∷ b ∷ []
+numbers (some-until a b) = a ∷ b ∷ []

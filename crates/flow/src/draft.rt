@@ -13,6 +13,7 @@ use crate::line::Line;
 mod building;
 mod closing;
 mod hunting;
+mod reading;
 mod refusing;
 
 // The graph so far, with room for what may still come.

@@ -3,7 +3,7 @@ ghost use mathlib.Core.Bool.{true};
 ghost use mathlib.Core.Path.{_≡_};
 ghost use lib.Dec.{ltb};
 ghost use Rattle.flow.specs.Held.{asked-of, line-of};
-ghost use Rattle.flow.specs.Line.{made as spelled};
+ghost use Rattle.flow.specs.Line.{made as spelled, operator as headed-by};
 ghost use Rattle.flow.specs.Operators.{counted, operator-of};
 ghost use Rattle.flow.specs.Sheet.{right as sits, worded};
 ghost use Rattle.flow.specs.Tests.{every};
@@ -111,6 +111,23 @@ impl Line {
             return Err(Refusal::BadOperand);
         }
         Ok(Line::of(shape.operator, numbers))
+    }
+
+    /// The line's operator.
+    pub fn operator(&self) -> Operator
+        ensures { λ r. ⌜ r ≡ headed-by (line-of (now (self .entry))) ⌝ }
+    {
+        match *self {
+            Line::Predicate { .. } => Operator::Predicate,
+            Line::And { .. } => Operator::And,
+            Line::Or { .. } => Operator::Or,
+            Line::Not { .. } => Operator::Not,
+            Line::Exists { .. } => Operator::Exists,
+            Line::AllNext { .. } => Operator::AllNext,
+            Line::SomeNext { .. } => Operator::SomeNext,
+            Line::AllUntil { .. } => Operator::AllUntil,
+            Line::SomeUntil { .. } => Operator::SomeUntil,
+        }
     }
 
     // Whether the operands are right after so many lines.

@@ -1,3 +1,4 @@
 pub mod Limit
 pub mod Pages
 pub mod Spaced
+pub mod Records

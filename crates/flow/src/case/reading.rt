@@ -1,9 +1,12 @@
 // What a case holds.
 ghost use mathlib.Core.List.{map};
 ghost use mathlib.Core.Path.{_≡_};
+ghost use Prim.Native.Nat.{_≤_};
+ghost use lib.ListN.{length};
 ghost use Rattle.flow.specs.Cases.{graph-in, lines-in};
 ghost use Rattle.flow.specs.Facts.{Ordered};
 ghost use Rattle.flow.specs.Held.{label-of, line-of};
+ghost use Rattle.flow.specs.Limits.{most-closed-edges, most-labels, most-lines};
 use crate::case::Case;
 use crate::edge::Edge;
 use crate::label::Label;
@@ -19,14 +22,16 @@ impl Case {
 
     /// The edges, those that were drawn first: the successors of a state are where its edges lead, in this order.
     pub fn edges(&self) -> &[Edge]
-        ensures { λ r. ⌜ now r ≡ graph-in (now (self .entry)) .edges ⌝ }
+        ensures drawn { λ r. ⌜ now r ≡ graph-in (now (self .entry)) .edges ⌝ }
+        ensures few { λ r. ⌜ length (now r) ≤ most-closed-edges ⌝ }
     {
         self.edges.as_slice()
     }
 
     /// The labels, in the order of entry.
     pub fn labels(&self) -> &[Label]
-        ensures { λ r. ⌜ map label-of (now r) ≡ graph-in (now (self .entry)) .labels ⌝ }
+        ensures entered { λ r. ⌜ map label-of (now r) ≡ graph-in (now (self .entry)) .labels ⌝ }
+        ensures few { λ r. ⌜ length (now r) ≤ most-labels ⌝ }
     {
         self.labels.as_slice()
     }
@@ -34,6 +39,7 @@ impl Case {
     /// The formula lines, by their numbers.
     pub fn lines(&self) -> &[Line]
         ensures sheet { λ r. ⌜ map line-of (now r) ≡ lines-in (now (self .entry)) ⌝ }
+        ensures few { λ r. ⌜ length (now r) ≤ most-lines ⌝ }
         ensures ordered { λ _. ⌜ Ordered (lines-in (now (self .entry))) ⌝ }
     {
         self.lines.as_slice()

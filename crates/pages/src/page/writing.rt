@@ -6,6 +6,7 @@ ghost use Rattle.std.specs.Vec.{made};
 ghost use Rattle.std.specs.Written.{decimal};
 ghost use Rattle.std.specs.declared.option.Option.the-variants.{Some};
 ghost use Rattle.pages.specs.Pages.{add, shown};
+ghost use Rattle.pages.specs.Records.{as-fields, crlf};
 use crate::page::LIMIT;
 use crate::page::Page;
 use std::alloc::AllocError;
@@ -18,6 +19,14 @@ impl Page {
     {
         let bytes = Vec::with_capacity(heap, LIMIT)?;
         Ok(Page { bytes, over: false })
+    }
+
+    /// Takes everything off the page.
+    pub fn clear(&mut self)
+        ensures { λ _. ⌜ shown (now (self .exit)) ≡ Some [] ⌝ }
+    {
+        self.bytes.clear();
+        self.over = false;
     }
 
     /// Prints one byte.
@@ -58,5 +67,22 @@ impl Page {
             self.put(b' ');
         }
         self.put_number(n);
+    }
+    /// Prints numbers as fields of a record, each after a comma.
+    pub fn put_fields(&mut self, numbers: &[u32])
+        ensures { λ _. ⌜ shown (now (self .exit)) ≡ add (shown (now (self .entry))) (as-fields (now (numbers .entry))) ⌝ }
+    {
+        for n in numbers {
+            self.put(b',');
+            self.put_number(*n);
+        }
+    }
+
+    /// Ends a record.
+    pub fn end_record(&mut self)
+        ensures { λ _. ⌜ shown (now (self .exit)) ≡ add (shown (now (self .entry))) crlf ⌝ }
+    {
+        self.put(b'\r');
+        self.put(b'\n');
     }
 }

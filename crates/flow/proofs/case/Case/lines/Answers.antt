@@ -1,5 +1,6 @@
 use mathlib.Core.List.{map}
 use mathlib.Core.Path.{ap}
+use native.Mathlib.Omega.{arith}
 use Rattle.flow.specs.Cases.{lines-in}
 use Rattle.flow.specs.Held.{line-of}
 use Rattle.flow.proofs.Facts.{ordered}
@@ -9,4 +10,8 @@ pub returns : need.returns
 unfolding lines-in
 returns c =
     let self = c .args .self .now in
-    record { sheet = ap (map line-of) (c .as-slice .ensures .value); ordered = ordered (lines-in self) (self .ordered) }
+    record {
+      sheet = ap (map line-of) (c .as-slice .ensures .value);
+      few = omega (arith, self .lines .ok .0, self .«few_lines»);
+      ordered = ordered (lines-in self) (self .ordered);
+    }

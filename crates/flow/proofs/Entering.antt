@@ -38,12 +38,14 @@ module _ (ls : List Line) (c : ℕ) (ns : List ℕ) where
     pub entry-full : right (length ls) l ≡ true → most-lines ≤ length ls → entry ls c ns ≡ Err TableFull
     unfolding entry
     entry-full e h =
-        ap (placed (length ls)) asked ∙ cond-true (right (length ls) l) _ _ e ∙ cond-false _ _ _ (le-ltb (length ls) most-lines h)
+        ap (placed (length ls)) asked ∙ cond-true (right (length ls) l) _ _ e
+        ∙ cond-false _ _ _ (le-ltb (length ls) most-lines h)
 
     pub entry-fine : right (length ls) l ≡ true → length ls < most-lines → entry ls c ns ≡ Ok l
     unfolding entry
     entry-fine e h =
-        ap (placed (length ls)) asked ∙ cond-true (right (length ls) l) _ _ e ∙ cond-true _ _ _ (lt-ltb (length ls) most-lines h)
+        ap (placed (length ls)) asked ∙ cond-true (right (length ls) l) _ _ e
+        ∙ cond-true _ _ _ (lt-ltb (length ls) most-lines h)
 
 placed-right : (n : ℕ) (o : Result Line Refusal) (l : Line) → placed n o ≡ Ok l → (right n l ≡ true) × (n < most-lines)
 placed-right n (Err r) l e = let z : _≡_ {A = ℕ} 0 1 = cc in (absurd (omega arith), omega arith)
@@ -53,10 +55,12 @@ placed-right n (Ok x) l e =
           let in-time : cond (ltb n most-lines) (Ok x) (Err TableFull) ≡ Ok l = sym (cond-true (right n x) _ _ t) ∙ e in
           elim (leb-tells (suc n) most-lines) [
             | inl h ↦
-                let same : x ≡ l = let f : _≡_ {A = Result Line Refusal} (Ok x) (Ok l) = sym (cond-true _ _ _ (h .0)) ∙ in-time in cc in
+                let same : x ≡ l = let f : _≡_ {A = Result Line Refusal} (Ok x) (Ok l) = sym (cond-true _ _ _ (h .0))
+                ∙ in-time in cc in
                 (ap (right n) (sym same) ∙ t, h .1)
             | inr h ↦
-                let f : _≡_ {A = Result Line Refusal} (Err TableFull) (Ok l) = sym (cond-false _ _ _ (h .0)) ∙ in-time in
+                let f : _≡_ {A = Result Line Refusal} (Err TableFull) (Ok l) = sym (cond-false _ _ _ (h .0))
+                ∙ in-time in
                 let z : _≡_ {A = ℕ} 0 1 = cc in (absurd (omega arith), omega arith)
           ]
       | inr t ↦
@@ -65,19 +69,23 @@ placed-right n (Ok x) l e =
     ]
 
 -- a line that is entered is right where it stands, and there is room for it
-pub entry-right : (ls : List Line) (c : ℕ) (ns : List ℕ) (l : Line) → entry ls c ns ≡ Ok l → (right (length ls) l ≡ true) × (length ls < most-lines)
+pub entry-right : (ls : List Line) (c : ℕ) (ns : List ℕ) (l : Line) → entry ls c ns ≡ Ok l
+    → (right (length ls) l ≡ true) × (length ls < most-lines)
 unfolding entry
 entry-right ls c ns l e = placed-right (length ls) (worded (operator-of c) ns) l e
 
 -- one more line, right where it stands
-right-push : (n : ℕ) (ls : List Line) (l : Line) → right-from n ls ≡ true → right (n + length ls) l ≡ true → right-from n (ls ++ l ∷ []) ≡ true
+right-push : (n : ℕ) (ls : List Line) (l : Line) → right-from n ls ≡ true → right (n + length ls) l ≡ true
+    → right-from n (ls ++ l ∷ []) ≡ true
 right-push n [] l e f = and-from (right n l) true (ap (λ k. right k l) (sym (add-zero n)) ∙ f) refl
 right-push n (x ∷ ls) l e f =
     let h = and-parts (right n x) (right-from (n + 1) ls) e in
     let k : n + 1 + length ls ≡ n + length (x ∷ ls) = omega arith in
-    and-from (right n x) (right-from (n + 1) (ls ++ l ∷ [])) (h .0) (right-push (n + 1) ls l (h .1) (ap (λ i. right i l) k ∙ f))
+    and-from (right n x) (right-from (n + 1) (ls ++ l ∷ [])) (h .0)
+    (right-push (n + 1) ls l (h .1) (ap (λ i. right i l) k ∙ f))
 
-pub sound-push : (ls : List Line) (l : Line) → sound-sheet ls ≡ true → right (length ls) l ≡ true → sound-sheet (ls ++ l ∷ []) ≡ true
+pub sound-push : (ls : List Line) (l : Line) → sound-sheet ls ≡ true → right (length ls) l ≡ true
+    → sound-sheet (ls ++ l ∷ []) ≡ true
 unfolding sound-sheet
 sound-push ls l e f = right-push 0 ls l e (ap (λ n. right n l) (zero-add (length ls)) ∙ f)
 

@@ -33,7 +33,8 @@ use Rattle.std.specs.declared.result.Result.the-variants.{Err, Ok}
 use Rattle.std.specs.shelf.Lists.{All}
 
 -- a test that each element passes, as a fact of each
-all-from-every : {A : Type 0} (p : A → Bool) (P : A → Type 0) → ((x : A) → p x ≡ true → P x) → (xs : List A) → every p xs ≡ true → All P xs
+all-from-every : {A : Type 0} (p : A → Bool) (P : A → Type 0) → ((x : A) → p x ≡ true → P x) → (xs : List A)
+    → every p xs ≡ true → All P xs
 all-from-every p P f [] e = tt
 all-from-every p P f (x ∷ xs) e =
     let h = and-parts (p x) (every p xs) e in
@@ -62,10 +63,16 @@ stays-from-inside n (x ∷ es) s e =
     let h = and-parts (inside n x) (every (inside n) es) e in
     let rest = stays-from-inside n es s (h .1) in
     let first = ltb-true (x .to) n (and-parts (ltb (x .from) n) (ltb (x .to) n) (h .0) .1) in
-    cond-both (eqb (x .from) s) (x .to ∷ ends es s) (ends es s) (λ ts. All (λ t. t < n) ts) (λ f. (first, rest)) (λ f. rest)
+    cond-both (eqb (x .from) s) (x .to ∷ ends es s) (ends es s) (λ ts. All (λ t. t < n) ts) (λ f. (first, rest))
+    (λ f. rest)
 
 proper-from-test : (n : ℕ) (l : Label) → proper n l ≡ true → Proper n l
-proper-from-test n l e = record { on-state = grind (arith, tells); small = grind (arith, tells); few = grind (arith, tells) }
+proper-from-test n l e = record {
+  on-state = grind (arith, tells);
+  small = grind (arith, tells);
+  few = grind
+      (arith, tells);
+}
 
 pub closed-graph : (g : Graph) → sound-closed g ≡ true → Closed-graph g
 unfolding sound-closed
@@ -77,15 +84,18 @@ closed-graph g s =
       few = leb-true (g .states) most-states (and-parts (leb (g .states) most-states) _ (halves .0) .0);
       leads = λ t h. leads-from-leaves (g .edges) t (below-each (leaves (g .edges)) (g .states) t (parts .1) h);
       stays = λ t. stays-from-inside (g .states) (g .edges) t (joins .0);
-      labelled = all-from-every (proper (g .states)) (Proper (g .states)) (proper-from-test (g .states)) (g .labels) (joins .1);
+      labelled = all-from-every (proper (g .states)) (Proper (g .states)) (proper-from-test (g .states)) (g .labels)
+          (joins .1);
     }
 
-right-at : (n : ℕ) (ls : List Line) → right-from n ls ≡ true → (i : ℕ) (d : Line) → i < length ls → right (n + i) (getD ls i d) ≡ true
+right-at : (n : ℕ) (ls : List Line) → right-from n ls ≡ true → (i : ℕ) (d : Line) → i < length ls
+    → right (n + i) (getD ls i d) ≡ true
 right-at n [] e i d h = absurd (not-suc-le-zero h)
 right-at n (l ∷ ls) e zero d h = ap (λ k. right k l) (add-zero n) ∙ and-parts (right n l) (right-from (n + 1) ls) e .0
 right-at n (l ∷ ls) e (suc i) d h =
     let k : n + suc i ≡ n + 1 + i = omega arith in
-    ap (λ j. right j (getD ls i d)) k ∙ right-at (n + 1) ls (and-parts (right n l) (right-from (n + 1) ls) e .1) i d (omega arith)
+    ap (λ j. right j (getD ls i d)) k
+    ∙ right-at (n + 1) ls (and-parts (right n l) (right-from (n + 1) ls) e .1) i d (omega arith)
 
 pub ordered : (ls : List Line) → sound-sheet ls ≡ true → Ordered ls
 unfolding sound-sheet
@@ -105,7 +115,8 @@ unfolding sound
 drawn-closed bs = closed-graph (closed (drawn bs)) (sound-once-closed (drawn bs) (sound-on nothing-drawn bs refl))
 
 -- and every sheet that calls enter is ordered
-sound-entered : (ls : List Line) (c : ℕ) (ns : List ℕ) (o : Result Line Refusal) → entry ls c ns ≡ o → sound-sheet ls ≡ true → sound-sheet (entered ls o) ≡ true
+sound-entered : (ls : List Line) (c : ℕ) (ns : List ℕ) (o : Result Line Refusal) → entry ls c ns ≡ o
+    → sound-sheet ls ≡ true → sound-sheet (entered ls o) ≡ true
 sound-entered ls c ns (Ok l) e s = sound-push ls l s (entry-right ls c ns l e .0)
 sound-entered ls c ns (Err r) e s = s
 

@@ -45,13 +45,15 @@ module _ {A : Type 0} (p : A → Bool) where
 
 module _ (es : List Edge) where
   -- one state more
-  loops-more : (s : ℕ) (t : Bool) → leaves es s ≡ t → es ++ loops es (s + 1) ≡ (es ++ loops es s) ++ cond t [] (record { from = s; to = s } ∷ [])
+  loops-more : (s : ℕ) (t : Bool) → leaves es s ≡ t
+      → es ++ loops es (s + 1) ≡ (es ++ loops es s) ++ cond t [] (record { from = s; to = s } ∷ [])
   loops-more s t e =
       ap (λ n. es ++ loops es n) (add-one s) ∙ sym (append-assoc es (loops es s) (loop es s))
       ∙ ap (λ b. (es ++ loops es s) ++ cond b [] (record { from = s; to = s } ∷ [])) e
 
   -- it has no outgoing edge, and gets one
-  pub loops-push : (s : ℕ) → leaves es s ≡ false → es ++ loops es (s + 1) ≡ (es ++ loops es s) ++ record { from = s; to = s } ∷ []
+  pub loops-push : (s : ℕ) → leaves es s ≡ false
+      → es ++ loops es (s + 1) ≡ (es ++ loops es s) ++ record { from = s; to = s } ∷ []
   loops-push s e = loops-more s false e
 
   -- it has one
@@ -62,19 +64,22 @@ module _ (es : List Edge) where
   pub length-loops : (n : ℕ) → length (loops es n) ≤ n
   length-loops zero = omega arith
   length-loops (suc n) =
-      let most : length (loop es n) ≤ 1 = cond-both (leaves es n) [] (_ ∷ []) (λ l. length l ≤ 1) (λ e. omega arith) (λ e. omega arith) in
+      let most : length (loop es n) ≤ 1 = cond-both (leaves es n) [] (_ ∷ []) (λ l. length l ≤ 1) (λ e. omega arith)
+      (λ e. omega arith) in
       let rest = length-loops n in
       simp length-append (omega arith)
 
   -- none of them leaves from a later state
   loop-later : (n s : ℕ) → n < s → leaves (loop es n) s ≡ false
-  loop-later n s h = cond-both (leaves es n) [] (_ ∷ []) (λ l. leaves l s ≡ false) (λ e. refl) (λ e. grind (arith, tells))
+  loop-later n s h = cond-both (leaves es n) [] (_ ∷ []) (λ l. leaves l s ≡ false) (λ e. refl)
+      (λ e. grind (arith, tells))
 
   loops-later : (n s : ℕ) → n ≤ s → leaves (loops es n) s ≡ false
   loops-later zero s h = refl
   loops-later (suc n) s h =
       any-append (λ e. eqb (e .from) s) (loops es n) (loop es n)
-      ∙ or-from (leaves (loops es n) s) (leaves (loop es n) s) (loops-later n s (omega arith)) (loop-later n s (omega arith))
+      ∙ or-from (leaves (loops es n) s) (leaves (loop es n) s) (loops-later n s (omega arith))
+      (loop-later n s (omega arith))
 
   -- so a state has an outgoing edge before its turn exactly where one was drawn
   pub leaves-before : (s : ℕ) → leaves (es ++ loops es s) s ≡ leaves es s
@@ -105,7 +110,8 @@ module _ (es : List Edge) where
         | inl k ↦ or-left (leaves (loops es n) s) (leaves (loop es n) s) (leaves-loops n s k e)
         | inr k ↦
             let here : s ≡ n = omega arith in
-            or-right (leaves (loops es n) s) (leaves (loop es n) s) (ap (λ x. leaves (loop es x) s) (sym here) ∙ leaves-loop s e)
+            or-right (leaves (loops es n) s) (leaves (loop es n) s)
+            (ap (λ x. leaves (loop es x) s) (sym here) ∙ leaves-loop s e)
       ]
 
   leaves-after : (n s : ℕ) → s < n → leaves (es ++ loops es n) s ≡ true

@@ -47,7 +47,8 @@ module _ (g : Graph) (a b : ℕ) where
   unfolding refusal
   edge-unknown h = grind (arith, tells)
 
-  pub edge-there : a < g .states → b < g .states → any (is-edge a b) (g .edges) ≡ true → refusal g (edge a b) ≡ Some AlreadyThere
+  pub edge-there : a < g .states → b < g .states → any (is-edge a b) (g .edges) ≡ true
+      → refusal g (edge a b) ≡ Some AlreadyThere
   unfolding refusal
   edge-there h k e = grind (arith, tells)
 
@@ -68,7 +69,8 @@ module _ (g : Graph) (s p : ℕ) (ns : List ℕ) where
   unfolding refusal
   label-unknown h = grind (arith, tells)
 
-  pub label-bad : s < g .states → (predicates ≤ p) ⊎ (most-arguments < length ns) → refusal g (label s p ns) ≡ Some BadLabel
+  pub label-bad : s < g .states → (predicates ≤ p) ⊎ (most-arguments < length ns)
+      → refusal g (label s p ns) ≡ Some BadLabel
   unfolding refusal
   label-bad h k = grind (arith, tells)
 

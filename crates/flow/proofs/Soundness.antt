@@ -26,7 +26,8 @@ module _ {A : Type 0} (p : A → Bool) where
       and-from (p x) (every p (xs ++ y ∷ [])) (h .0) (every-push xs y (h .1) f)
 
   -- a test that asks no more
-  pub every-like : (q : A → Bool) → ((x : A) → p x ≡ true → q x ≡ true) → (xs : List A) → every p xs ≡ true → every q xs ≡ true
+  pub every-like : (q : A → Bool) → ((x : A) → p x ≡ true → q x ≡ true) → (xs : List A) → every p xs ≡ true
+      → every q xs ≡ true
   every-like q f [] e = refl
   every-like q f (x ∷ xs) e =
       let h = and-parts (p x) (every p xs) e in

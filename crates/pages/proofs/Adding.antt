@@ -32,7 +32,8 @@ unfolding add
 add-add None a b = refl
 add-add (Some xs) a b =
     elim (leb-tells (length xs + length a) limit) [
-      | inl h ↦ rw (h .0, append-assoc, length-append xs a, length-append a b) (ap (λ n. cond (leb n limit) (Some (xs ++ (a ++ b))) None) (omega arith))
+      | inl h ↦ rw (h .0, append-assoc, length-append xs a, length-append a b)
+          (ap (λ n. cond (leb n limit) (Some (xs ++ (a ++ b))) None) (omega arith))
       | inr h ↦ rw (h .0) (sym (add-full xs (a ++ b) (simp length-append (omega arith))))
     ]
 
@@ -48,7 +49,18 @@ then-add o p q a b e f = f ∙ add-more o p a b e
 pub add-nothing : (p : Page) → add (shown p) [] ≡ shown p
 unfolding shown add
 add-nothing p =
-    elim (p .over) as (λ t. add (cond t None (Some (vec-items (p .bytes)))) [] ≡ cond t None (Some (vec-items (p .bytes)))) [
+    elim (p .over) as (λ t. add (cond t None (Some (vec-items (p .bytes)))) [] ≡ cond t None
+    (Some (vec-items (p .bytes)))) [
       | true ↦ refl
-      | false ↦ add-room (vec-items (p .bytes)) [] (omega (arith, p .few, p .bytes .ok .0)) ∙ ap (λ l. Some l) (append-nil (vec-items (p .bytes)))
+      | false ↦ add-room (vec-items (p .bytes)) [] (omega (arith, p .few, p .bytes .ok .0))
+          ∙ ap (λ l. Some l) (append-nil (vec-items (p .bytes)))
     ]
+
+-- a loop that prints: one part is printed, and the rest is left
+pub add-step : (o p : Option (List ℕ)) (a rest whole : List ℕ) → p ≡ add o a → whole ≡ a ++ rest
+    → add p rest ≡ add o whole
+add-step o p a rest whole e f = add-more o p a rest e ∙ ap (add o) (sym f)
+
+-- nothing is left
+pub add-done : (p : Page) (rest : List ℕ) → rest ≡ [] → shown p ≡ add (shown p) rest
+add-done p rest e = sym (add-nothing p) ∙ ap (add (shown p)) (sym e)

@@ -13,11 +13,13 @@ use Rattle.std.specs.declared.option.Option.the-variants.{None, Some}
 
 module _ (p q : Page) (b : ℕ) where
   -- there is room for it
-  pub shown-push : q .over ≡ p .over → vec-items (q .bytes) ≡ vec-items (p .bytes) ++ b ∷ [] → vec-len (p .bytes) < limit → shown q ≡ add (shown p) (b ∷ [])
+  pub shown-push : q .over ≡ p .over → vec-items (q .bytes) ≡ vec-items (p .bytes) ++ b ∷ []
+      → vec-len (p .bytes) < limit → shown q ≡ add (shown p) (b ∷ [])
   unfolding shown add
   shown-push e f h =
       rw (e, f)
-      (elim (p .over) as (λ t. cond t None (Some (vec-items (p .bytes) ++ b ∷ [])) ≡ add (cond t None (Some (vec-items (p .bytes)))) (b ∷ [])) [
+      (elim (p .over) as (λ t. cond t None (Some (vec-items (p .bytes) ++ b ∷ [])) ≡ add
+      (cond t None (Some (vec-items (p .bytes)))) (b ∷ [])) [
         | true ↦ refl
         | false ↦ sym (add-room (vec-items (p .bytes)) (b ∷ []) (omega (arith, p .bytes .ok .0)))
       ])

@@ -1,6 +1,7 @@
 -- What stands on a page, and how it grows.
 use mathlib.Core.Bool.{cond}
 use mathlib.Core.List.{List, _++_}
+use mathlib.Core.Path.{_≡_}
 use Prim.Native.Nat.{ℕ, _+_}
 use lib.Dec.{leb}
 use lib.ListN.{length}
@@ -18,3 +19,7 @@ shown p = cond (p .over) None (Some (vec-items (p .bytes)))
 unfoldable pub add : Option (List ℕ) → List ℕ → Option (List ℕ)
 add None bs = None
 add (Some xs) bs = cond (leb (length xs + length bs) limit) (Some (xs ++ bs)) None
+
+-- the second page shows what the first does, and then the bytes
+abbrev pub Prints : Page → List ℕ → Page → Type 0
+Prints p bs q = shown q ≡ add (shown p) bs

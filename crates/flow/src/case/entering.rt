@@ -25,7 +25,8 @@ impl Case {
     }
 
     /// Enters a formula line and answers its number, from 0. Refused where the character is no operator, where the
-    /// numbers are too few or too many or one of them is too large or names no earlier line, or where the sheet is full.
+    /// numbers are too few or too many or one of them is too large or names no earlier line, or where the sheet is
+    /// full.
     pub fn line(&mut self, character: char, numbers: &[u32]) -> Result<u32, Refusal>
         ensures answers { λ r. let ls = lines-in (now (self .entry)) in
             ⌜ r ≡ numbered (length ls) (outcome ls character (now (numbers .entry))) ⌝ }

@@ -5,7 +5,7 @@ ghost use mathlib.Core.Path.{_≡_};
 ghost use Rattle.std.specs.Vec.{made};
 ghost use Rattle.std.specs.Written.{decimal};
 ghost use Rattle.std.specs.declared.option.Option.the-variants.{Some};
-ghost use Rattle.pages.specs.Pages.{add, shown};
+ghost use Rattle.pages.specs.Pages.{Prints, shown};
 ghost use Rattle.pages.specs.Records.{as-fields, crlf};
 use crate::page::LIMIT;
 use crate::page::Page;
@@ -31,7 +31,7 @@ impl Page {
 
     /// Prints one byte.
     pub fn put(&mut self, b: u8)
-        ensures { λ _. ⌜ shown (now (self .exit)) ≡ add (shown (now (self .entry))) (b ∷ []) ⌝ }
+        ensures { λ _. ⌜ Prints (now (self .entry)) (b ∷ []) (now (self .exit)) ⌝ }
     {
         if self.bytes.len() < LIMIT {
             self.bytes.push_reserved(b);
@@ -42,7 +42,7 @@ impl Page {
 
     /// Prints the bytes, in order.
     pub fn put_all(&mut self, bytes: &[u8])
-        ensures { λ _. ⌜ shown (now (self .exit)) ≡ add (shown (now (self .entry))) (now (bytes .entry)) ⌝ }
+        ensures { λ _. ⌜ Prints (now (self .entry)) (now (bytes .entry)) (now (self .exit)) ⌝ }
     {
         for b in bytes {
             self.put(*b);
@@ -51,7 +51,7 @@ impl Page {
 
     /// Prints a number to base ten.
     pub fn put_number(&mut self, n: u32)
-        ensures { λ _. ⌜ shown (now (self .exit)) ≡ add (shown (now (self .entry))) (decimal n) ⌝ }
+        ensures { λ _. ⌜ Prints (now (self .entry)) (decimal n) (now (self .exit)) ⌝ }
     {
         if n >= 10 {
             self.put_number(n / 10);
@@ -61,7 +61,7 @@ impl Page {
 
     /// Prints one number of a list: a space before it, unless it is the first.
     pub fn put_spaced(&mut self, first: bool, n: u32)
-        ensures { λ _. ⌜ shown (now (self .exit)) ≡ add (shown (now (self .entry))) (cond first [] (32 ∷ []) ++ decimal n) ⌝ }
+        ensures { λ _. ⌜ Prints (now (self .entry)) (cond first [] (32 ∷ []) ++ decimal n) (now (self .exit)) ⌝ }
     {
         if !first {
             self.put(b' ');
@@ -70,7 +70,7 @@ impl Page {
     }
     /// Prints numbers as fields of a record, each after a comma.
     pub fn put_fields(&mut self, numbers: &[u32])
-        ensures { λ _. ⌜ shown (now (self .exit)) ≡ add (shown (now (self .entry))) (as-fields (now (numbers .entry))) ⌝ }
+        ensures { λ _. ⌜ Prints (now (self .entry)) (as-fields (now (numbers .entry))) (now (self .exit)) ⌝ }
     {
         for n in numbers {
             self.put(b',');
@@ -80,7 +80,7 @@ impl Page {
 
     /// Ends a record.
     pub fn end_record(&mut self)
-        ensures { λ _. ⌜ shown (now (self .exit)) ≡ add (shown (now (self .entry))) crlf ⌝ }
+        ensures { λ _. ⌜ Prints (now (self .entry)) crlf (now (self .exit)) ⌝ }
     {
         self.put(b'\r');
         self.put(b'\n');

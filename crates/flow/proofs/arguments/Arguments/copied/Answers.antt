@@ -21,4 +21,5 @@ pub returns : need.returns
 unfolding listed
 returns c =
     let e : length (c .args .from .now) ≡ c .loop-i .i = omega arith in
-    ap (λ n. take n (c .loop-i .numbers)) e ∙ c .loop-i .inv .1 ∙ take-all (c .loop-i .i) (c .args .from .now) (omega arith)
+    ap (λ n. take n (c .loop-i .numbers)) e ∙ c .loop-i .inv .1
+    ∙ take-all (c .loop-i .i) (c .args .from .now) (omega arith)

@@ -11,7 +11,8 @@ use Rattle.std.proofs.shelf.Results.{err-from-errBy}
 pub returns-in-Break-line : need.returns-in-Break-line
 returns-in-Break-line c =
     let p = err-from-errBy (c .from-residual .result) (c .from-residual .ensures .1) in
-    rw (p .1, p .2) (sym (entry-refused (lines-in (c .args .self .now)) (c .args .character) (c .args .numbers .now) _ (sym (c .in-Break-line .ensures tt))))
+    rw (p .1, p .2) (sym (entry-refused (lines-in (c .args .self .now)) (c .args .character) (c .args .numbers .now) _
+    (sym (c .in-Break-line .ensures tt))))
 
 pub returns-then-not-sits-after : need.returns-then-not-sits-after
 returns-then-not-sits-after c =

@@ -15,7 +15,8 @@ use Rattle.std.specs.declared.result.Result.the-variants.{Ok}
 pub push-reserved-requires : need.push-reserved-requires
 push-reserved-requires c κs =
     let self = c .args .self .now in
-    let room = entry-right (lines-in self) (c .args .character) (c .args .numbers .now) (line-of (c .in-Ok .line)) (sym (c .in-Ok .ensures tt)) .1 in
+    let room = entry-right (lines-in self) (c .args .character) (c .args .numbers .now) (line-of (c .in-Ok .line))
+    (sym (c .in-Ok .ensures tt)) .1 in
     omega (arith, length-lines self, self .«line_room»)
 
 pub ghost-self : need.ghost-self
@@ -23,12 +24,14 @@ unfolding lines-in
 ghost-self c =
     let self = c .args .self .now in
     let line = line-of (c .in-Ok .line) in
-    let found = entry-right (lines-in self) (c .args .character) (c .args .numbers .now) line (sym (c .in-Ok .ensures tt)) in
+    let found = entry-right (lines-in self) (c .args .character) (c .args .numbers .now) line
+    (sym (c .in-Ok .ensures tt)) in
     let room = found .1 in (
       self .sound,
       (
         ap (λ ls. sound-sheet (map line-of ls)) (c .push-reserved .ensures .items)
-            ∙ ap sound-sheet (map-push line-of (vec-items (self .lines)) (c .in-Ok .line)) ∙ sound-push (lines-in self) line (self .ordered) (found .0),
+            ∙ ap sound-sheet (map-push line-of (vec-items (self .lines)) (c .in-Ok .line))
+            ∙ sound-push (lines-in self) line (self .ordered) (found .0),
         (omega (arith, length-lines self), (omega (arith, self .«line_room»), tt)),
       ),
     )
@@ -39,9 +42,11 @@ returns-in-Ok c =
     let self = c .args .self .now in
     let ls = lines-in self in
     record {
-      answers = ap (λ n. Ok n) (c .len-number .ensures ∙ sym (length-lines self)) ∙ ap (numbered (length ls)) (c .in-Ok .ensures tt);
+      answers = ap (λ n. Ok n) (c .len-number .ensures ∙ sym (length-lines self))
+          ∙ ap (numbered (length ls)) (c .in-Ok .ensures tt);
       leaves =
-          ap (map line-of) (c .push-reserved .ensures .items) ∙ map-push line-of (vec-items (self .lines)) (c .in-Ok .line)
+          ap (map line-of) (c .push-reserved .ensures .items)
+          ∙ map-push line-of (vec-items (self .lines)) (c .in-Ok .line)
           ∙ ap (entered ls) (c .in-Ok .ensures tt);
       stays = refl;
     }

@@ -13,7 +13,8 @@ unfolding sound
 ghost-result c =
     let room = c .args .room in
     let es : vec-items (room .edges) ≡ [] = nil-from-length _ (omega (arith, room .edges .ok .0, room .«no_edges»)) in
-    let ls : vec-items (room .labels) ≡ [] = nil-from-length _ (omega (arith, room .labels .ok .0, room .«no_labels»)) in
+    let ls : vec-items (room .labels) ≡ [] = nil-from-length _
+    (omega (arith, room .labels .ok .0, room .«no_labels»)) in
     (rw (es, ls), (room .«no_lines», (room .«edge_room», (room .«label_room», (room .«line_room», tt)))))
 
 pub returns : need.returns
@@ -21,5 +22,6 @@ unfolding drawn-in
 returns c =
     let room = c .args .room in
     let es : vec-items (room .edges) ≡ [] = nil-from-length _ (omega (arith, room .edges .ok .0, room .«no_edges»)) in
-    let ls : vec-items (room .labels) ≡ [] = nil-from-length _ (omega (arith, room .labels .ok .0, room .«no_labels»)) in
+    let ls : vec-items (room .labels) ≡ [] = nil-from-length _
+    (omega (arith, room .labels .ok .0, room .«no_labels»)) in
     rw (es, ls)

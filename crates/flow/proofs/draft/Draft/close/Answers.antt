@@ -36,7 +36,8 @@ loop-state-again c =
     let es = vec-items (c .args .self .edges) in
     let s = c .loop-state .state in
     let tested : leaves es s ≡ c .left-from .result =
-    sym (c .left-from .ensures ∙ ap (λ l. leaves l s) (c .as-slice .ensures .value ∙ c .loop-state .inv .0) ∙ leaves-before es s) in
+    sym (c .left-from .ensures ∙ ap (λ l. leaves l s) (c .as-slice .ensures .value ∙ c .loop-state .inv .0)
+    ∙ leaves-before es s) in
     elim (c .if-not-left-from .came) [
       | then-not-left-from w ↦ (
         ap vec-items (w .edges-is) ∙ w .push-reserved .ensures .items
@@ -56,8 +57,10 @@ ghost-result c =
     let self = c .args .self in
     let all : c .loop-state .state ≡ self .states = omega arith in
     let edges = c .loop-state .inv .0 ∙ ap (λ n. vec-items (self .edges) ++ loops (vec-items (self .edges)) n) all in
-    let none : vec-items (self .lines) ≡ [] = nil-from-length _ (omega (arith, self .lines .ok .0, self .«no_lines»)) in (
-      ap (λ es. sound-closed (graph-of (self .states) es (vec-items (self .labels)))) edges ∙ sound-once-closed (drawn-in self) (self .sound),
+    let none : vec-items (self .lines) ≡ [] = nil-from-length _
+    (omega (arith, self .lines .ok .0, self .«no_lines»)) in (
+      ap (λ es. sound-closed (graph-of (self .states) es (vec-items (self .labels)))) edges
+          ∙ sound-once-closed (drawn-in self) (self .sound),
       (ap (λ ls. sound-sheet (map line-of ls)) none, (omega (arith, self .«no_lines»), (self .«line_room», tt))),
     )
 
@@ -67,11 +70,13 @@ returns c =
     let self = c .args .self in
     let all : c .loop-state .state ≡ self .states = omega arith in
     let edges = c .loop-state .inv .0 ∙ ap (λ n. vec-items (self .edges) ++ loops (vec-items (self .edges)) n) all in
-    let graph : graph-of (self .states) (vec-items (c .loop-state .edges)) (vec-items (self .labels)) ≡ closed (drawn-in self) =
+    let graph : graph-of (self .states) (vec-items (c .loop-state .edges)) (vec-items (self .labels)) ≡ closed
+    (drawn-in self) =
     ap (λ es. graph-of (self .states) es (vec-items (self .labels))) edges in
     let none : vec-items (self .lines) ≡ [] = nil-from-length _ (omega (arith, self .lines .ok .0, self .«no_lines»)) in
     record {
       graph = graph;
       sheet = ap (map line-of) none;
-      facts = subst Closed-graph (sym graph) (closed-graph (closed (drawn-in self)) (sound-once-closed (drawn-in self) (self .sound)));
+      facts = subst Closed-graph (sym graph)
+          (closed-graph (closed (drawn-in self)) (sound-once-closed (drawn-in self) (self .sound)));
     }

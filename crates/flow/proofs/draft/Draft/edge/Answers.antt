@@ -22,7 +22,8 @@ unfolding drawn-in added
 ghost-self c =
     let self = c .args .self .now in (
       ap (λ es. sound (graph-of (self .states) es (vec-items (self .labels)))) (c .push-reserved .ensures .items)
-          ∙ sound-added (drawn-in self) (edge (c .args .from) (c .args .to)) (self .sound) (sym (c .in-rest .ensures tt)),
+          ∙ sound-added (drawn-in self) (edge (c .args .from) (c .args .to)) (self .sound)
+          (sym (c .in-rest .ensures tt)),
       (self .«no_lines», (omega (arith, self .«edge_room»), (self .«label_room», (self .«line_room», tt)))),
     )
 

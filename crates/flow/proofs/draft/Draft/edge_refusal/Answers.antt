@@ -28,7 +28,8 @@ unfolding drawn-in
 returns-then-joined c =
     let test = any (is-edge (c .args .from) (c .args .to)) in
     sym
-    (edge-there (drawn-in (c .args .self .now)) (c .args .from) (c .args .to) (c .if-from-self .left) (c .if-to-self .left)
+    (edge-there (drawn-in (c .args .self .now)) (c .args .from) (c .args .to) (c .if-from-self .left)
+    (c .if-to-self .left)
     (sym (c .if-joined .ensures tt ∙ ap test (c .as-slice .ensures .value))))
 
 pub returns-then-len-ge-MOST-EDGES : need.returns-then-len-ge-MOST-EDGES
@@ -36,13 +37,17 @@ unfolding drawn-in
 returns-then-len-ge-MOST-EDGES c =
     let test = any (is-edge (c .args .from) (c .args .to)) in
     sym
-    (edge-full (drawn-in (c .args .self .now)) (c .args .from) (c .args .to) (c .if-from-self .left) (c .if-to-self .left)
-    (sym (c .if-joined .ensures tt ∙ ap test (c .as-slice .ensures .value))) (omega (arith, c .args .self .now .edges .ok .0)))
+    (edge-full (drawn-in (c .args .self .now)) (c .args .from) (c .args .to) (c .if-from-self .left)
+    (c .if-to-self .left)
+    (sym (c .if-joined .ensures tt ∙ ap test (c .as-slice .ensures .value)))
+    (omega (arith, c .args .self .now .edges .ok .0)))
 
 pub returns : need.returns
 unfolding drawn-in
 returns c =
     let test = any (is-edge (c .args .from) (c .args .to)) in
     sym
-    (edge-fine (drawn-in (c .args .self .now)) (c .args .from) (c .args .to) (c .if-from-self .left) (c .if-to-self .left)
-    (sym (c .if-joined .ensures tt ∙ ap test (c .as-slice .ensures .value))) (omega (arith, c .args .self .now .edges .ok .0)))
+    (edge-fine (drawn-in (c .args .self .now)) (c .args .from) (c .args .to) (c .if-from-self .left)
+    (c .if-to-self .left)
+    (sym (c .if-joined .ensures tt ∙ ap test (c .as-slice .ensures .value)))
+    (omega (arith, c .args .self .now .edges .ok .0)))

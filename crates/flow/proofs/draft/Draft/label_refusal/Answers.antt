@@ -15,13 +15,15 @@ use Rattle.std.specs.Of.Vec.{vec-items}
 pub returns-then-state-self : need.returns-then-state-self
 unfolding drawn-in
 returns-then-state-self c =
-    sym (label-unknown (drawn-in (c .args .self .now)) (c .args .state) (c .args .predicate) (c .args .values .now) (c .if-state-self .taken))
+    sym (label-unknown (drawn-in (c .args .self .now)) (c .args .state) (c .args .predicate) (c .args .values .now)
+    (c .if-state-self .taken))
 
 pub returns-then-predicate-ge-PREDICATES : need.returns-then-predicate-ge-PREDICATES
 unfolding drawn-in
 returns-then-predicate-ge-PREDICATES c =
     sym
-    (label-bad (drawn-in (c .args .self .now)) (c .args .state) (c .args .predicate) (c .args .values .now) (c .if-state-self .left)
+    (label-bad (drawn-in (c .args .self .now)) (c .args .state) (c .args .predicate) (c .args .values .now)
+    (c .if-state-self .left)
     (elim (c .then-predicate-ge-PREDICATES .either) [ inl h ↦ inl h | inr h ↦ inr (h .1) ]))
 
 pub returns-then-labelled : need.returns-then-labelled

@@ -12,13 +12,15 @@ returns-then-says c =
     let here = sym (c .if-says .ensures tt ∙ ap test (c .label-item .is)) in
     sym
     (any-map label-of (is-label (c .args .state) (c .args .predicate) (c .args .values .now)) (c .args .labels .now)
-    ∙ c .loop-label .inv ∙ any-here test (c .args .labels .now) (c .loop-label .label-index) _ (c .loop-label-test .taken) here)
+    ∙ c .loop-label .inv ∙ any-here test (c .args .labels .now) (c .loop-label .label-index) _
+    (c .loop-label-test .taken) here)
 
 pub loop-label-again : need.loop-label-again
 loop-label-again c =
     let test : Label → Bool = λ x. is-label (c .args .state) (c .args .predicate) (c .args .values .now) (label-of x) in
     let here = sym (c .if-says .ensures tt ∙ ap test (c .label-item .is)) in
-    c .loop-label .inv ∙ any-more test (c .args .labels .now) (c .loop-label .label-index) _ (c .loop-label-test .taken) here
+    c .loop-label .inv ∙ any-more test (c .args .labels .now) (c .loop-label .label-index) _
+    (c .loop-label-test .taken) here
 
 pub returns : need.returns
 returns c =

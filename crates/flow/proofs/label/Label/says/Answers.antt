@@ -14,5 +14,11 @@ returns c =
     let self = c .args .self .now in
     let values = c .args .values .now in
     let same : c .eq .result ≡ same-numbers (listed (self .values)) values =
-    same-from-decides _ _ (matches-decides _ _ _ (c .eq .ensures)) (same-numbers-decides (c .as-slice .result .now) values) ∙ ap (λ l. same-numbers l values) (c .as-slice .ensures) in
-    rw (eq-eqb (self .state) (c .args .state) (c .if-self-state .left), eq-eqb (self .predicate) (c .args .predicate) (c .if-self-predicate .left)) same
+    same-from-decides _ _ (matches-decides _ _ _ (c .eq .ensures))
+    (same-numbers-decides (c .as-slice .result .now) values)
+    ∙ ap (λ l. same-numbers l values) (c .as-slice .ensures) in
+    rw (
+      eq-eqb (self .state) (c .args .state) (c .if-self-state .left),
+      eq-eqb (self .predicate) (c .args .predicate)
+          (c .if-self-predicate .left),
+    ) same

@@ -16,7 +16,8 @@ returns t c =
     let front = shown (c .if-n-ge10 .self) in
     elim (c .if-n-ge10 .came) [
       | then-n-ge10 w ↦
-          then-add was front (shown (c .put .last .self)) (decimal (n / 10)) ((48 + n % 10) ∷ []) (ap shown (w .self-is) ∙ w .put-number .ensures) (c .put .ensures)
+          then-add was front (shown (c .put .last .self)) (decimal (n / 10)) ((48 + n % 10) ∷ [])
+          (ap shown (w .self-is) ∙ w .put-number .ensures) (c .put .ensures)
           ∙ ap (add was) (sym (decimal-step n (omega arith) (omega arith)))
       | else-n-ge10 w ↦
           let e : 48 + n % 10 ≡ 48 + n = omega arith in

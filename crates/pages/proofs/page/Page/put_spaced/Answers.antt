@@ -13,7 +13,8 @@ returns c =
     let number = decimal (c .args .n) in
     elim (c .if-not-first .came) [
       | then-not-first w ↦
-          then-add was (shown (c .if-not-first .self)) (shown (c .put-number .last .self)) (32 ∷ []) number (ap shown (w .self-is) ∙ w .put .ensures) (c .put-number .ensures)
+          then-add was (shown (c .if-not-first .self)) (shown (c .put-number .last .self)) (32 ∷ []) number
+          (ap shown (w .self-is) ∙ w .put .ensures) (c .put-number .ensures)
           ∙ ap (λ t. add was (cond t [] (32 ∷ []) ++ number)) (sym (w .if-not-first .taken))
       | else-not-first w ↦
           c .put-number .ensures ∙ ap (λ p. add (shown p) number) (w .self-is)

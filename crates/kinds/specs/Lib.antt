@@ -1,0 +1,9 @@
+pub mod Model
+pub mod Laws
+pub mod Member
+pub mod Consequences
+pub mod Highest
+pub mod Amounts
+pub mod Names
+pub mod Fragments
+pub mod Texts

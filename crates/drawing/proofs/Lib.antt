@@ -1,0 +1,5 @@
+pub mod Printing
+pub mod Steps
+pub mod Progress
+pub mod Whole
+pub mod Bounds

@@ -1,0 +1,6 @@
+pub mod Faults
+pub mod Refused
+pub mod Following
+pub mod Followed
+pub mod Shown
+pub mod Output

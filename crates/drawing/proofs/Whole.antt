@@ -4,21 +4,9 @@ use mathlib.Core.Path.{_≡_, refl, sym, ap, subst, _∙_}
 use Prim.Native.Nat.{ℕ, _+_, _-_, _≤_}
 use native.Mathlib.Omega.{arith}
 use lib.ListN.{length, length-append}
+use Rattle.drawing.specs.Calls.{line-calls}
 use Rattle.drawing.specs.Followed.{Followed}
-use Rattle.drawing.specs.Following.{
-  Standing,
-  checks,
-  closed-case,
-  drafting,
-  entered-by,
-  final,
-  if-closes,
-  later,
-  left-by,
-  next,
-  refused,
-  reply,
-}
+use Rattle.drawing.specs.Following.{Standing, checks, closed-case, drafting, later, refused}
 use Rattle.drawing.specs.Output.{
   all-refused,
   done-text,
@@ -27,41 +15,28 @@ use Rattle.drawing.specs.Output.{
   empty-draft,
   empty-sheet,
   entered-lines,
-  graph-of,
-  lines-of,
 }
 use Rattle.drawing.specs.Refused.{Refused, refused-text, told}
 use Rattle.drawing.specs.Shown.{case-text}
-use Rattle.drawing.specs.declared.fault.Fault.{Fault}
-use Rattle.drawing.specs.declared.step.Step.{Step}
-use Rattle.drawing.specs.declared.step.Step.the-variants.{Checks, Closes, Goes}
 use Rattle.drawing.specs.declared.tally.Tally.{Tally}
+use Rattle.drawing.proofs.Ends.{drawn-to-end, entered-to-end}
 use Rattle.flow.specs.Closed.{closed, loops}
-use Rattle.flow.specs.Graph.{Graph}
+use Rattle.flow.specs.Graph.{Graph, nothing-drawn}
 use Rattle.flow.specs.Line.{Line}
+use Rattle.flow.specs.Sheet.{sheet as sheet-of}
 use Rattle.pages.proofs.Adding.{then-add}
 use Rattle.pages.specs.Pages.{add}
-use Rattle.records.specs.Asked.{sheet-call}
 use Rattle.records.specs.Texts.{records}
 use Rattle.std.specs.declared.option.Option.{Option}
-use Rattle.std.specs.declared.result.Result.{Result}
-use Rattle.std.specs.declared.result.Result.the-variants.{Err, Ok}
 
--- what holds of both ways holds of the one that is taken
-either-way : {A : Type 0} (P : A → Type 0) (o : Result Step Fault) (x y : A) → P x → P y → P (if-closes o x y)
-either-way P (Ok Goes) x y h k = k
-either-way P (Ok Checks) x y h k = k
-either-way P (Ok Closes) x y h k = h
-either-way P (Err f) x y h k = k
+-- what a standing holds
+abbrev graph-of : Standing → Graph
+graph-of (drafting g) = g
+graph-of (closed-case g ls) = g
 
--- the graph of a closed case stays
-graph-stays : (g : Graph) (ls : List Line) (ts : List (List ℕ)) → graph-of (final (closed-case g ls) ts) ≡ g
-unfolding final
-graph-stays g ls [] = refl
-graph-stays g ls (t ∷ ts) =
-    let s = closed-case g ls in
-    either-way (λ x. graph-of x ≡ g) (reply s t) (next s t) (final (next s t) ts) refl
-    (graph-stays g (left-by entered-by ls (sheet-call t)) ts)
+abbrev lines-of : Standing → List Line
+lines-of (drafting g) = []
+lines-of (closed-case g ls) = ls
 
 told-append : (rs qs : List Refused) → told (rs ++ qs) ≡ told rs ++ told qs
 told-append [] qs = refl
@@ -85,7 +60,7 @@ module _
     (second : Followed (closed-case (closed g₁) []) n₁ left₁ p₁ (closed-case g₂ ls) n₂ left₂ p₂ t₂)
   where
     pub same-graph : g₂ ≡ closed g₁
-    same-graph = ap graph-of (second .leaves) ∙ graph-stays (closed g₁) [] (records left₁)
+    same-graph = ap graph-of (second .leaves ∙ entered-to-end (closed g₁) [] (records left₁))
 
     -- the edges that were drawn are among those of the closed graph
     pub drawn-first : length (g₁ .edges) ≤ length (g₂ .edges)
@@ -99,7 +74,7 @@ module _
     unfolding drawing
     whole p₃ p₄ shown-case shown-done =
         let rs = records input in
-        let graph : g₁ ≡ drawn-graph rs = ap graph-of (first .leaves) in
+        let graph : g₁ ≡ drawn-graph rs = ap graph-of (first .leaves ∙ drawn-to-end nothing-drawn rs) in
         let read : n₁ ≡ length rs - length (later empty-draft rs) = omega (arith, first .counted) in
         let sheet : closed-case (closed g₁) [] ≡ empty-sheet rs = ap (λ g. closed-case (closed g) []) graph in
         let told-later : refused (closed-case (closed g₁) []) n₁ (records left₁) ≡ refused (empty-sheet rs)
@@ -107,8 +82,7 @@ module _
         ap (λ s. refused s n₁ (records left₁)) sheet ∙ ap (λ n. refused (empty-sheet rs) n (records left₁)) read
         ∙ ap (refused (empty-sheet rs) (length rs - length (later empty-draft rs))) (first .others) in
         let lines : ls ≡ entered-lines rs =
-        ap lines-of (second .leaves) ∙ ap (λ s. lines-of (final s (records left₁))) sheet
-        ∙ ap (λ l. lines-of (final (empty-sheet rs) l)) (first .others) in
+        ap lines-of (second .leaves ∙ entered-to-end (closed g₁) [] (records left₁)) ∙ ap (λ l. sheet-of (line-calls l)) (first .others) in
         let asked : t₂ .checks ≡ checks (empty-sheet rs) (later empty-draft rs) =
         second .asked ∙ ap (λ s. checks s (records left₁)) sheet ∙ ap (checks (empty-sheet rs)) (first .others) in
         let refusals : t₁ .refused + t₂ .refused ≡ length (all-refused rs) =

@@ -5,37 +5,34 @@ use Prim.Native.Nat.{ℕ, _+_, _-_}
 use lib.Chars.{codes}
 use lib.Dec.{leb}
 use lib.ListN.{length}
-use Rattle.drawing.specs.Following.{Standing, checks, closed-case, drafting, final, later, refused}
+use Rattle.drawing.specs.Calls.{builds, line-calls}
+use Rattle.drawing.specs.Following.{Standing, checks, closed-case, drafting, later, refused}
 use Rattle.drawing.specs.Refused.{Refused, told}
 use Rattle.drawing.specs.Shown.{case-text}
 use Rattle.flow.specs.Closed.{closed}
+use Rattle.flow.specs.Drawn.{drawn}
 use Rattle.flow.specs.Graph.{Graph, nothing-drawn}
 use Rattle.flow.specs.Line.{Line}
+use Rattle.flow.specs.Sheet.{sheet}
 use Rattle.pages.specs.Limit.{limit}
 use Rattle.pages.specs.Records.{as-fields, crlf}
 use Rattle.records.specs.Texts.{records}
 
-abbrev pub graph-of : Standing → Graph
-graph-of (drafting g) = g
-graph-of (closed-case g ls) = g
-
-abbrev pub lines-of : Standing → List Line
-lines-of (drafting g) = []
-lines-of (closed-case g ls) = ls
-
--- the first records draw on an empty draft
+-- the first records draw on an empty draft, up to the one that closes it
 abbrev pub empty-draft : Standing
 empty-draft = drafting nothing-drawn
 
+-- the graph that their calls draw
 abbrev pub drawn-graph : List (List ℕ) → Graph
-drawn-graph rs = graph-of (final empty-draft rs)
+drawn-graph rs = drawn (builds rs)
 
 -- the draft is closed, by its record or at the end of the text, and the other records find an empty sheet
 abbrev pub empty-sheet : List (List ℕ) → Standing
 empty-sheet rs = closed-case (closed (drawn-graph rs)) []
 
+-- the lines that their calls enter
 abbrev pub entered-lines : List (List ℕ) → List Line
-entered-lines rs = lines-of (final (empty-sheet rs) (later empty-draft rs))
+entered-lines rs = sheet (line-calls (later empty-draft rs))
 
 -- the records that are refused, in their order
 abbrev pub all-refused : List (List ℕ) → List Refused

@@ -9,6 +9,7 @@ pub mod Operators
 pub mod Line
 pub mod Sheet
 pub mod Held
+pub mod Rooms
 pub mod Sound
 pub mod Drafts
 pub mod Cases

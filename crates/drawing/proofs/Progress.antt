@@ -48,9 +48,9 @@ pub record Progress (s₀ : Standing) (n₀ : ℕ) (left₀ : List ℕ) (page₀
   pub few : refusals + asked ≤ n
 
 -- nothing has been followed yet
-pub progress-none : (s : Standing) (n : ℕ) (left : List ℕ) (page : Option (List ℕ)) → n + length left ≤ limit
-    → Progress s n left page s n left page 0 0
-progress-none s n left page h =
+pub progress-none : (s : Standing) (n : ℕ) (left : List ℕ) (p : Option (List ℕ)) → n + length left ≤ limit
+    → Progress s n left p s n left p 0 0
+progress-none s n left p h =
     record {
       leaves = refl;
       others = refl;

@@ -7,23 +7,13 @@ use native.Mathlib.Numerals.{add-one}
 use lib.Dec.{eqb}
 use lib.ListN.{drop, getD, length}
 use Rattle.drawing.specs.Shown.{label-fields, line-text, lines-text, state-text, states-text}
-use Rattle.flow.specs.Graph.{Graph, ends}
+use Rattle.flow.specs.Graph.{Graph}
 use Rattle.flow.specs.Held.{label-of, line-of, listed}
-use Rattle.flow.specs.declared.edge.Edge.{Edge}
 use Rattle.flow.specs.declared.label.Label.{Label}
 use Rattle.flow.specs.declared.line.Line.{Line}
 use Rattle.pages.specs.Spaced.{spaced}
 use Rattle.std.proofs.shelf.Lists.{drop-all, drop-more}
 use Rattle.std.proofs.shelf.Tests.{cond-false, cond-true, eq-eqb, ne-eqb}
-
-module _ (es : List Edge) (i s : ℕ) (d : Edge) (h : i < length es) where
-  -- the next edge leaves from s
-  pub ends-here : getD es i d .from ≡ s → ends (drop i es) s ≡ getD es i d .to ∷ ends (drop (i + 1) es) s
-  ends-here e = ap (λ l. ends l s) (drop-more es i d h) ∙ cond-true _ _ _ (eq-eqb (getD es i d .from) s e)
-
-  -- it does not
-  pub ends-past : (getD es i d .from ≡ s → ⊥) → ends (drop i es) s ≡ ends (drop (i + 1) es) s
-  ends-past e = ap (λ l. ends l s) (drop-more es i d h) ∙ cond-false _ _ _ (ne-eqb (getD es i d .from) s e)
 
 -- the labels of s among those in the table, as fields
 abbrev pub fields-of : List Label → ℕ → List ℕ

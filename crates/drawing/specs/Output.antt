@@ -44,9 +44,9 @@ all-refused rs =
 -- asked for and not yet worked
 abbrev pub done-text : Graph → ℕ → ℕ → ℕ → ℕ → List ℕ
 done-text g drawn lines refusals asked =
-    (68
-    ∷ as-fields
-    (g .states ∷ drawn ∷ (length (g .edges) - drawn) ∷ length (g .labels) ∷ lines ∷ refusals ∷ asked ∷ []))
+    let added = length (g .edges) - drawn in
+    (codes "D"
+    ++ as-fields (g .states ∷ drawn ∷ added ∷ length (g .labels) ∷ lines ∷ refusals ∷ asked ∷ []))
     ++ crlf
 
 -- the refusals, the closed case, and what was done

@@ -1,6 +1,7 @@
 -- What is told of the records that are refused.
 use mathlib.Core.List.{List, [], _∷_, _++_}
 use Prim.Native.Nat.{ℕ}
+use lib.Chars.{codes}
 use Rattle.drawing.specs.Faults.{field-of, layer-of, letter, number-of}
 use Rattle.drawing.specs.declared.fault.Fault.{Fault}
 use Rattle.pages.specs.Records.{as-fields, crlf}
@@ -14,7 +15,7 @@ pub record Refused : Type 0 where
 -- `X,layer,number,record,field`
 abbrev pub refused-text : Refused → List ℕ
 refused-text r =
-    (88 ∷ 44 ∷ letter (layer-of (r .fault)) ∷ [])
+    (codes "X," ++ letter (layer-of (r .fault)) ∷ [])
     ++ (as-fields (number-of (r .fault) ∷ r .at ∷ field-of (r .fault) ∷ []) ++ crlf)
 
 -- one record for each

@@ -2,6 +2,7 @@
 use mathlib.Core.Bool.{cond}
 use mathlib.Core.List.{List, [], _∷_, _++_}
 use Prim.Native.Nat.{ℕ, _+_, suc, zero}
+use lib.Chars.{codes}
 use lib.Dec.{eqb}
 use Rattle.flow.specs.Graph.{Graph, Label, successors}
 use Rattle.flow.specs.Line.{Line, numbers, operator}
@@ -14,12 +15,12 @@ use Rattle.std.specs.Written.{decimal}
 abbrev pub label-fields : List Label → ℕ → List ℕ
 label-fields [] s = []
 label-fields (l ∷ ls) s =
-    cond (eqb (l .state) s) (44 ∷ spaced (l .predicate ∷ l .values)) [] ++ label-fields ls s
+    cond (eqb (l .state) s) (codes "," ++ spaced (l .predicate ∷ l .values)) [] ++ label-fields ls s
 
 -- `S,state,successors` and its labels
 abbrev pub state-text : Graph → ℕ → List ℕ
 state-text g s =
-    (83 ∷ as-fields (s ∷ [])) ++ ((44 ∷ spaced (successors g s)) ++ (label-fields (g .labels) s ++ crlf))
+    (codes "S" ++ as-fields (s ∷ [])) ++ ((codes "," ++ spaced (successors g s)) ++ (label-fields (g .labels) s ++ crlf))
 
 -- the states below n, ascending
 abbrev pub states-text : Graph → ℕ → List ℕ
@@ -29,7 +30,7 @@ states-text g (suc s) = states-text g s ++ state-text g s
 -- `F,line,operator,numbers`
 abbrev pub line-text : ℕ → Line → List ℕ
 line-text n l =
-    (70 ∷ as-fields (n ∷ [])) ++ ((44 ∷ character (operator l) ∷ []) ++ (as-fields (numbers l) ++ crlf))
+    (codes "F" ++ as-fields (n ∷ [])) ++ ((codes "," ++ character (operator l) ∷ []) ++ (as-fields (numbers l) ++ crlf))
 
 -- the lines, the first of which has the number n
 abbrev pub lines-text : ℕ → List Line → List ℕ

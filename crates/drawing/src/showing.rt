@@ -1,6 +1,6 @@
 // A case as records.
-ghost use mathlib.Core.List.{_∷_, map};
-ghost use mathlib.Core.Path.{_≡_};
+ghost use mathlib.Core.List.{_++_, _∷_, map};
+ghost use lib.Chars.{codes};
 ghost use Rattle.drawing.specs.Shown.{case-text, label-fields, line-text, lines-text, state-text, states-text};
 ghost use Rattle.flow.specs.Cases.{graph-in, lines-in};
 ghost use Rattle.flow.specs.Graph.{ends};
@@ -30,7 +30,7 @@ fn show_successors(edges: &[Edge], state: u32, page: &mut Page)
 
 // A label as a field: its predicate and its values, with single spaces between.
 fn show_label(label: &Label, page: &mut Page)
-    ensures { λ _. let text = 44 ∷ spaced (now (label .entry) .predicate ∷ listed (now (label .entry) .values)) in
+    ensures { λ _. let text = codes "," ++ spaced (now (label .entry) .predicate ∷ listed (now (label .entry) .values)) in
         ⌜ Prints (now (page .entry)) text (now (page .exit)) ⌝ }
 {
     page.put(b',');

@@ -4,5 +4,6 @@ pub mod Labels
 pub mod Refusing
 pub mod Soundness
 pub mod Loops
+pub mod Successors
 pub mod Entering
 pub mod Facts

@@ -38,3 +38,18 @@ fn an_empty_draft_may_be_closed(rt: LibcRuntime) -> Result<(), Fail> {
     check_eq(case.states(), 0)?;
     check(case.line('P', &[0]) == Ok(0))
 }
+
+#[test]
+fn successors_stand_in_edge_order(rt: LibcRuntime) -> Result<(), Fail> {
+    let mut draft = Draft::begin(Room::new(rt.alloc())?);
+    for n in 0..3 {
+        check(draft.state() == Ok(n))?;
+    }
+    check(draft.edge(0, 2) == Ok(()))?;
+    check(draft.edge(1, 0) == Ok(()))?;
+    check(draft.edge(0, 1) == Ok(()))?;
+    let case = draft.close();
+    check(case.successor(0, 0) == Some(2) && case.successor(0, 1) == Some(1))?;
+    check(case.successor(0, 2) == None && case.successor(3, 0) == None)?;
+    check(case.successor(2, 0) == Some(2) && case.successor(2, 1) == None)
+}

@@ -2,6 +2,7 @@
 ghost use mathlib.Core.Bool.{cond};
 ghost use mathlib.Core.List.{[], _∷_, _++_};
 ghost use mathlib.Core.Path.{_≡_};
+ghost use lib.Chars.{codes};
 ghost use Rattle.std.specs.Vec.{made};
 ghost use Rattle.std.specs.Written.{decimal};
 ghost use Rattle.std.specs.declared.option.Option.the-variants.{Some};
@@ -61,7 +62,7 @@ impl Page {
 
     /// Prints one number of a list: a space before it, unless it is the first.
     pub fn put_spaced(&mut self, first: bool, n: u32)
-        ensures { λ _. ⌜ Prints (now (self .entry)) (cond first [] (32 ∷ []) ++ decimal n) (now (self .exit)) ⌝ }
+        ensures { λ _. ⌜ Prints (now (self .entry)) (cond first [] (codes " ") ++ decimal n) (now (self .exit)) ⌝ }
     {
         if !first {
             self.put(b' ');

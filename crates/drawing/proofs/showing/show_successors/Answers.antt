@@ -3,9 +3,9 @@ use mathlib.Core.List.{_∷_}
 use mathlib.Core.Path.{sym, ap, _∙_}
 use Prim.Native.Nat.{_+_}
 use lib.ListN.{drop}
-use Rattle.drawing.proofs.Steps.{ends-here, ends-past}
 use Rattle.drawing.proofs.showing.show_successors.Needs as need
 use Rattle.drawing.proofs.showing.show_successors.Needs.{else-edge-state, then-edge-state}
+use Rattle.flow.proofs.Successors.{ends-here, ends-past}
 use Rattle.flow.specs.Graph.{ends}
 use Rattle.pages.proofs.Adding.{add-done, add-step}
 use Rattle.pages.specs.Pages.{add, shown}

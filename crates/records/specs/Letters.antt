@@ -5,6 +5,7 @@ use Prim.Native.Nat.{ℕ}
 use lib.Dec.{eqb}
 use Rattle.std.specs.declared.option.Option.{Option}
 use Rattle.std.specs.declared.option.Option.the-variants.{None, Some}
+use Rattle.records.specs.Limits.{most-fields}
 use Rattle.records.specs.declared.letter.Letter.{Letter}
 use Rattle.records.specs.declared.letter.Letter.the-variants.{State, Edge, Label, Close, Line, Check}
 use Rattle.records.specs.declared.letter.Shape.{Shape}
@@ -22,9 +23,9 @@ byte-of Check = 75
 abbrev pub shape : Letter → Shape
 shape State = record { least = 1; most = 1; operator = false }
 shape Edge = record { least = 3; most = 3; operator = false }
-shape Label = record { least = 3; most = 7; operator = false }
+shape Label = record { least = 3; most = most-fields; operator = false }
 shape Close = record { least = 1; most = 1; operator = false }
-shape Line = record { least = 3; most = 7; operator = true }
+shape Line = record { least = 3; most = most-fields; operator = true }
 shape Check = record { least = 2; most = 2; operator = false }
 
 -- all letters

@@ -1,3 +1,4 @@
+pub mod Limits
 pub mod Texts
 pub mod Scanned
 pub mod Next

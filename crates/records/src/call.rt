@@ -1,7 +1,7 @@
 // The calls that records ask for.
 use crate::numbers::Numbers;
 
-// The calls on a draft.
+/// The calls on a draft.
 #[derive(Clone, Copy)]
 pub enum DraftCall {
     State,
@@ -17,7 +17,7 @@ pub enum DraftCall {
     Close,
 }
 
-// The calls on a closed case.
+/// The calls on a closed case.
 #[derive(Clone, Copy)]
 pub enum SheetCall {
     Line { operator: u8, numbers: Numbers },

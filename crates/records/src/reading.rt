@@ -4,6 +4,7 @@ ghost use mathlib.Core.Path.{_≡_};
 ghost use Prim.Native.Nat.{_-_, _<_, _≤_};
 ghost use lib.ListN.{drop, getD, length};
 ghost use Rattle.records.specs.Asked.{asked-of-case, asked-of-draft, numbers};
+ghost use Rattle.records.specs.Limits.{most-fields};
 ghost use Rattle.records.specs.Listed.{listed};
 ghost use Rattle.records.specs.Numbers.{number-of};
 ghost use Rattle.records.specs.Seen.{draft-seen, seen, sheet-seen};
@@ -33,7 +34,7 @@ fn number_at(record: &Record, at: u32) -> Result<u32, Fault>
 // The numbers in the fields from `first` on.
 fn numbers_from(record: &Record, first: u32) -> Result<Numbers, Fault>
     requires letter { ⌜ 1 < first ⌝ }
-    requires most { ⌜ length (fields (now «record» .text .now)) ≤ 7 ⌝ }
+    requires most { ⌜ length (fields (now «record» .text .now)) ≤ most-fields ⌝ }
     ensures { λ r. let of = now («record» .entry) in
         ⌜ seen listed r ≡ numbers first (drop (first - 1) (fields (of .text .now))) ⌝ }
 {

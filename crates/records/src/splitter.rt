@@ -9,7 +9,7 @@ use crate::record::Record;
 use crate::scan::Cut;
 use crate::scan::first_cut;
 
-// What is left of the text, and how many records were read. Each took a byte or more, so their count fits.
+/// What is left of the text, and how many records were read. Each took a byte or more, so their count fits.
 #[derive(Drop)]
 pub struct Splitter<'a> {
     left: &'a [u8],
@@ -18,7 +18,7 @@ pub struct Splitter<'a> {
 }
 
 impl<'a> Splitter<'a> {
-    // A splitter of the whole text.
+    /// A splitter of the whole text.
     pub fn new(input: &'a [u8]) -> Splitter<'a>
         ensures left { λ r. ⌜ r .left .now ≡ now (input .entry) ⌝ }
         ensures count { λ r. ⌜ r .count ≡ 0 ⌝ }
@@ -29,7 +29,7 @@ impl<'a> Splitter<'a> {
         }
     }
 
-    // The next record, or `None` where nothing is left.
+    /// The next record, or `None` where nothing is left.
     pub fn next(&mut self) -> Option<Record<'a>>
         ensures { λ r. let from = now (self .entry) in let to = now (self .exit) in
             ⌜ Next (from .left .now) (from .count) r (to .left .now) (to .count) ⌝ }

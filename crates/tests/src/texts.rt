@@ -27,15 +27,28 @@ fn records(rt: LibcRuntime) -> Result<(), Fail> {
     )
 }
 
+// Whether each of the inputs is drawn so.
+fn all_draw(rt: &LibcRuntime, inputs: &[&[u8]], output: &[u8]) -> Result<(), Fail> {
+    for input in inputs {
+        draws(rt, input, output)?;
+    }
+    Ok(())
+}
+
 #[test]
 fn stray_bytes(rt: LibcRuntime) -> Result<(), Fail> {
-    let one = b"X,T,23,1,0\r\nD,0,0,0,0,0,1,0\r\n";
-    draws(&rt, b"S\r", one)?;
-    draws(&rt, b"S\n", one)?;
-    draws(&rt, b"S\nS\r\n", one)?;
-    draws(&rt, b"S\rS\r\n", one)?;
-    draws(&rt, b"S\r\r\n", one)?;
-    draws(&rt, b"\"S\"", one)?;
+    all_draw(
+        &rt,
+        &[
+            b"S\r",
+            b"S\n",
+            b"S\nS\r\n",
+            b"S\rS\r\n",
+            b"S\r\r\n",
+            b"\"S\"",
+        ],
+        b"X,T,23,1,0\r\nD,0,0,0,0,0,1,0\r\n",
+    )?;
     draws(
         &rt,
         b"\r\r\nS",
@@ -55,36 +68,42 @@ fn numbers(rt: LibcRuntime) -> Result<(), Fail> {
         b"S\r\nL,0,1,4294967295",
         b"S,0,0,1 4294967295\r\nD,1,0,1,1,0,0,0\r\n",
     )?;
-    let third = b"X,T,21,1,4\r\nD,0,0,0,0,0,1,0\r\n";
-    draws(&rt, b"L,0,1,4294967296", third)?;
-    draws(
+    all_draw(
         &rt,
-        b"L,0,1,1234567890123456789012345678901234567890",
-        third,
+        &[
+            b"L,0,1,4294967296",
+            b"L,0,1,1234567890123456789012345678901234567890",
+            b"L,0,1,00",
+            b"L,0,1,01",
+            b"L,0,1,",
+            b"L,0,1,+1",
+            b"L,0,1, 1",
+        ],
+        b"X,T,21,1,4\r\nD,0,0,0,0,0,1,0\r\n",
     )?;
-    draws(&rt, b"L,0,1,00", third)?;
-    draws(&rt, b"L,0,1,01", third)?;
-    draws(&rt, b"L,0,1,", third)?;
-    draws(&rt, b"L,0,1,+1", third)?;
-    draws(&rt, b"L,0,1, 1", third)?;
     draws(&rt, b"L,0,x,y", b"X,T,21,1,3\r\nD,0,0,0,0,0,1,0\r\n")?;
     draws(&rt, b"E,,1", b"X,T,21,1,2\r\nD,0,0,0,0,0,1,0\r\n")
 }
 
 #[test]
 fn forms(rt: LibcRuntime) -> Result<(), Fail> {
-    let one = b"X,T,20,1,0\r\nD,0,0,0,0,0,1,0\r\n";
-    draws(&rt, b"s", one)?;
-    draws(&rt, b"SS", one)?;
-    draws(&rt, b"S,", one)?;
-    draws(&rt, b"E,0", one)?;
-    draws(&rt, b"E,0,0,0", one)?;
-    draws(&rt, b"L,0", one)?;
-    draws(&rt, b"L,0,1,1,2,3,4,5", one)?;
-    draws(&rt, b"F,P", one)?;
-    draws(&rt, b"F,,1", one)?;
-    draws(&rt, b"F,PP,1", one)?;
-    draws(&rt, b"K", one)
+    all_draw(
+        &rt,
+        &[
+            b"s",
+            b"SS",
+            b"S,",
+            b"E,0",
+            b"E,0,0,0",
+            b"L,0",
+            b"L,0,1,1,2,3,4,5",
+            b"F,P",
+            b"F,,1",
+            b"F,PP,1",
+            b"K",
+        ],
+        b"X,T,20,1,0\r\nD,0,0,0,0,0,1,0\r\n",
+    )
 }
 
 #[test]

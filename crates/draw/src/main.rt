@@ -1,5 +1,7 @@
 // Reads records from standard input, and prints the case that they draw.
 // Want of memory, or a read or write that fails, ends the program with status 1.
+#![tactic(auto)]
+
 use anyhow::anyhow;
 use drawing::drawing::draw;
 use flow::room::Room;

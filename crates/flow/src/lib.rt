@@ -2,6 +2,7 @@
 // Each call gives exactly the reply that the definitions of specs/ determine from the calls before it and its own
 // arguments: the earliest refusal that applies, or the answer; a refused call leaves the case as it was.
 // All memory is got by `Room::new`; no other call can want any.
+#![tactic(auto)]
 
 // How much a case may hold, and why a call is refused.
 pub mod limits;

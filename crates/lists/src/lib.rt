@@ -1,5 +1,6 @@
 // Lists of rows and the table of witnesses, both in memory that the caller lends.
 // One equation for each call says what it gives, what it leaves in every list, and when it refuses.
+#![tactic(auto)]
 
 // Lists of at most so many rows.
 pub mod lists;

@@ -1,6 +1,7 @@
 // Text in: the records of a text, their fields, and the calls that they ask for.
 // Each call is exact: what it answers is what the text says, by the definitions in specs/.
 // No memory is asked for: records and fields are parts of the text that is lent.
+#![tactic(auto)]
 
 // The records of a text, and their fields.
 pub mod record;

@@ -1,5 +1,6 @@
 // Rows, witnesses and forests as values: what a check works out is made of these.
 // Each call gives exactly what a definition of specs/ says, for every kind of value.
+#![tactic(auto)]
 
 // Sets of witness numbers.
 pub mod forest;

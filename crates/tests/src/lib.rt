@@ -1,4 +1,6 @@
 // Tests of what the other crates do on examples: boxes, rows, the limits of a case, broken and odd records.
+#![tactic(auto)]
+
 #[cfg(test)]
 mod boxes;
 #[cfg(test)]

@@ -12,7 +12,7 @@ pub loop-edge-preserved : goal.loop-edge-preserved
 loop-edge-preserved c =
     let es = c.args.edges.now in
     let s = c.args.state in
-    let i = c.loop-edge.edge_index in
+    let i = c.loop-edge.edge-index in
     let was = shown c.loop-edge.page in
     let first = c.loop-edge.first in
     let rest = ends (drop (i + 1) es) s in
@@ -37,5 +37,5 @@ returns c =
     let s = c.args.state in
     add_done c.loop-edge.page _
     (ap (λ l. separated c.loop-edge.first (ends l s))
-    (drop_all c.loop-edge.edge_index c.args.edges.now c.loop-edge-test.false))
+    (drop_all c.loop-edge.edge-index c.args.edges.now c.loop-edge-test.false))
     ∙ c.loop-edge.invariant

@@ -20,9 +20,9 @@ returns-in-err-add-moved g c =
     let state = c.args.state in
     let there = λ (t : ℕ). moved model state t (at table c.args.list) in
     let es = c.edges-edge-items.result.now in
-    let edge = edge_at es c.loop-edge.edge_index in
+    let edge = edge_at es c.loop-edge.edge-index in
     let loop = c.loop-edge.invariant in
-    let read = edge_read es c.loop-edge.edge_index c.loop-edge-test.true in
+    let read = edge_read es c.loop-edge.edge-index c.loop-edge-test.true in
     let gives = along_here there state edge c.if-edge-state.true
     ∙ ap (moved model state edge.to) (sym (loop_other loop c.requires.apart)) in
     let all = along_all there state (graph_in c.args.case.now) c.edges-edge-items.ensures.drawn in
@@ -37,9 +37,9 @@ loop-edge-preserved g c =
     let state = c.args.state in
     let there = λ (t : ℕ). moved model state t (at table c.args.list) in
     let es = c.edges-edge-items.result.now in
-    let edge = edge_at es c.loop-edge.edge_index in
+    let edge = edge_at es c.loop-edge.edge-index in
     let loop = c.loop-edge.invariant in
-    let read = edge_read es c.loop-edge.edge_index c.loop-edge-test.true in
+    let read = edge_read es c.loop-edge.edge-index c.loop-edge-test.true in
     elim c.if-edge-state.branch [
       | then-edge-state+in-ok-add-moved w ↦
           let gives = along_here there state edge w.if-edge-state.true

@@ -8,4 +8,4 @@ unfolding graph_in
 returns c =
     let self = c.args.self.now in
     let few = bounded_edges (graph_in self) self.sound in
-    record { drawn = c.as-slice.ensures.value; few = omega (arith, self.edges.ok.0) }
+    record { drawn = c.as_slice.ensures.value; few = omega (arith, self.edges.ok.0) }

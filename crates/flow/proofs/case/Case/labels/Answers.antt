@@ -11,6 +11,6 @@ returns c =
     let self = c.args.self.now in
     let few = bounded_labels (graph_in self) self.sound in
     record {
-      entered = ap (map label_of) c.as-slice.ensures.value;
+      entered = ap (map label_of) c.as_slice.ensures.value;
       few = omega (arith, self.labels.ok.0, length-map (vec_items self.labels) label_of);
     }

@@ -7,16 +7,16 @@ use Rattle.flow.proofs.Entering.{entry-right, length-lines, sound_push}
 use Rattle.flow.proofs.case.Case.line.Goals as goal
 use Rattle.std.proofs.lemmas.List.{map_push}
 
-pub push-reserved-requires : goal.push-reserved-requires
-push-reserved-requires c =
+pub push_reserved-requires : goal.push_reserved-requires
+push_reserved-requires c =
     let self = c.args.self.now in
     let room = (entry-right (lines_in self) c.args.character c.args.numbers.now (line_of c.in-Ok.line)
     (sym c.in-Ok.ensures)).1 in
     omega (arith, length-lines self, self.line_room)
 
-pub invariant-of-self : goal.invariant-of-self
+pub invariant_of-self : goal.invariant_of-self
 unfolding lines_in
-invariant-of-self c =
+invariant_of-self c =
     let self = c.args.self.now in
     let line = line_of c.in-Ok.line in
     let found = entry-right (lines_in self) c.args.character c.args.numbers.now line
@@ -24,7 +24,7 @@ invariant-of-self c =
     let room = found.1 in (
       self.sound,
       (
-        ap (λ ls. sound_sheet (map line_of ls)) c.push-reserved.ensures.items
+        ap (λ ls. sound_sheet (map line_of ls)) c.push_reserved.ensures.items
             ∙ ap sound_sheet (map_push line_of (vec_items self.lines) c.in-Ok.line)
             ∙ sound_push (lines_in self) line self.ordered found.0,
         (omega (arith, length-lines self), (omega (arith, self.line_room), tt)),
@@ -40,7 +40,7 @@ returns-in-Ok c =
       answers = ap (λ n. Ok n) (c.len-number.ensures ∙ sym (length-lines self))
           ∙ ap (numbered (length ls)) c.in-Ok.ensures;
       leaves =
-          ap (map line_of) c.push-reserved.ensures.items
+          ap (map line_of) c.push_reserved.ensures.items
           ∙ map_push line_of (vec_items self.lines) c.in-Ok.line
           ∙ ap (entered ls) c.in-Ok.ensures;
       stays = refl;

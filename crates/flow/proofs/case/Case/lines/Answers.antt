@@ -9,7 +9,7 @@ unfolding lines_in
 returns c =
     let self = c.args.self.now in
     record {
-      sheet = ap (map line_of) c.as-slice.ensures.value;
+      sheet = ap (map line_of) c.as_slice.ensures.value;
       few = omega (arith, self.lines.ok.0, self.few_lines);
       ordered = ordered (lines_in self) self.ordered;
     }

@@ -15,14 +15,14 @@ returns-then-left-eq0 c =
     let s = c.args.state in
     sym
     (ap (λ l. slice_get (ends l s) c.args.i) (sym c.edges-edge-items.ensures.drawn) ∙ c.loop-edge.invariant
-    ∙ ap (slice_get (ends (drop c.loop-edge.edge_index es) s)) c.if-left-eq0.true
-    ∙ ap (λ l. slice_get l 0) (ends_here es c.loop-edge.edge_index s _ c.loop-edge-test.true c.if-edge-state.true))
+    ∙ ap (slice_get (ends (drop c.loop-edge.edge-index es) s)) c.if-left-eq0.true
+    ∙ ap (λ l. slice_get l 0) (ends_here es c.loop-edge.edge-index s _ c.loop-edge-test.true c.if-edge-state.true))
 
 pub loop-edge-preserved : goal.loop-edge-preserved
 loop-edge-preserved c =
     let es = c.edges-edge-items.result.now in
     let s = c.args.state in
-    let i = c.loop-edge.edge_index in
+    let i = c.loop-edge.edge-index in
     let rest = ends (drop (i + 1) es) s in
     elim c.if-edge-state.branch [
       | then-edge-state+else-left-eq0 w ↦
@@ -41,4 +41,4 @@ returns c =
     let s = c.args.state in
     sym
     (ap (λ l. slice_get (ends l s) c.args.i) (sym c.edges-edge-items.ensures.drawn) ∙ c.loop-edge.invariant
-    ∙ ap (λ l. slice_get (ends l s) c.loop-edge.left) (drop_all c.loop-edge.edge_index es c.loop-edge-test.false))
+    ∙ ap (λ l. slice_get (ends l s) c.loop-edge.left) (drop_all c.loop-edge.edge-index es c.loop-edge-test.false))

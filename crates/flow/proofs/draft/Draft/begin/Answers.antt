@@ -5,9 +5,9 @@ use Rattle.flow.specs.Sound.{sound}
 use Rattle.flow.proofs.draft.Draft.begin.Goals as goal
 use Rattle.std.proofs.lemmas.List.{nil_from_length}
 
-pub invariant-of-result : goal.invariant-of-result
+pub invariant_of-result : goal.invariant_of-result
 unfolding sound
-invariant-of-result c =
+invariant_of-result c =
     let room = c.args.room in
     let es : vec_items room.edges ≡ [] = nil_from_length _ (omega (arith, room.edges.ok.0, room.no_edges)) in
     let ls : vec_items room.labels ≡ [] = nil_from_length _

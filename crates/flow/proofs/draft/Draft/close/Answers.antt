@@ -9,12 +9,12 @@ use Rattle.flow.proofs.Facts.{closed_graph}
 use Rattle.flow.proofs.Loops.{leaves_before, length-loops, loops_push, loops_skip, sound_once_closed}
 use Rattle.flow.proofs.Soundness.{sound_edges, sound_states}
 use Rattle.flow.proofs.draft.Draft.close.Goals as goal
-use Rattle.flow.proofs.draft.Draft.close.Goals.{else-not-left-from, then-not-left-from}
+use Rattle.flow.proofs.draft.Draft.close.Goals.{else-not-left_from, then-not-left_from}
 use Rattle.std.proofs.lemmas.List.{nil_from_length}
 
-pub push-reserved-requires : goal.push-reserved-requires
+pub push_reserved-requires : goal.push_reserved-requires
 unfolding drawn_in
-push-reserved-requires c =
+push_reserved-requires c =
     let self = c.args.self in
     let s = c.loop-state.state in
     let drawn = sound_edges (drawn_in self) self.sound in
@@ -31,25 +31,25 @@ pub loop-state-preserved : goal.loop-state-preserved
 loop-state-preserved c =
     let es = vec_items c.args.self.edges in
     let s = c.loop-state.state in
-    let tested : leaves es s ≡ c.left-from.result =
-    sym (c.left-from.ensures ∙ ap (λ l. leaves l s) (c.as-slice.ensures.value ∙ c.loop-state.invariant.0)
+    let tested : leaves es s ≡ c.left_from.result =
+    sym (c.left_from.ensures ∙ ap (λ l. leaves l s) (c.as_slice.ensures.value ∙ c.loop-state.invariant.0)
     ∙ leaves_before es s) in
-    elim c.if-not-left-from.branch [
-      | then-not-left-from w ↦ (
-        ap vec_items w.edges-is ∙ w.push-reserved.ensures.items
+    elim c.if-not-left_from.branch [
+      | then-not-left_from w ↦ (
+        ap vec_items w.edges-is ∙ w.push_reserved.ensures.items
             ∙ ap (λ l. l ++ record { from = s; to = s } ∷ []) c.loop-state.invariant.0
-            ∙ sym (loops_push es s (tested ∙ w.if-not-left-from.true)),
-        omega (arith, c.loop-state.invariant.1, w.push-reserved.ensures.capacity, ap vec_capacity w.edges-is),
+            ∙ sym (loops_push es s (tested ∙ w.if-not-left_from.true)),
+        omega (arith, c.loop-state.invariant.1, w.push_reserved.ensures.capacity, ap vec_capacity w.edges-is),
       )
-      | else-not-left-from w ↦ (
-        ap vec_items w.edges-is ∙ c.loop-state.invariant.0 ∙ sym (loops_skip es s (tested ∙ w.if-not-left-from.false)),
+      | else-not-left_from w ↦ (
+        ap vec_items w.edges-is ∙ c.loop-state.invariant.0 ∙ sym (loops_skip es s (tested ∙ w.if-not-left_from.false)),
         omega (arith, c.loop-state.invariant.1, ap vec_capacity w.edges-is),
       )
     ]
 
-pub invariant-of-result : goal.invariant-of-result
+pub invariant_of-result : goal.invariant_of-result
 unfolding drawn_in sound_sheet
-invariant-of-result c =
+invariant_of-result c =
     let self = c.args.self in
     let all : c.loop-state.state ≡ self.states = omega arith in
     let edges = c.loop-state.invariant.0 ∙ ap (λ n. vec_items self.edges ++ loops (vec_items self.edges) n) all in

@@ -8,20 +8,20 @@ use Rattle.flow.proofs.Refusing.{after_accepted, answer_accepted}
 use Rattle.flow.proofs.Soundness.{sound-added, sound_edges}
 use Rattle.flow.proofs.draft.Draft.edge.Goals as goal
 
-pub push-reserved-requires : goal.push-reserved-requires
+pub push_reserved-requires : goal.push_reserved-requires
 unfolding drawn_in
-push-reserved-requires c =
+push_reserved-requires c =
     let self = c.args.self.now in
     let few = sound_edges (drawn_in self) self.sound in
     omega (arith, self.edges.ok.0, self.edge_room)
 
-pub invariant-of-self : goal.invariant-of-self
+pub invariant_of-self : goal.invariant_of-self
 unfolding drawn_in added
-invariant-of-self c =
+invariant_of-self c =
     let self = c.args.self.now in (
-      ap (λ es. sound (graph_of self.states es (vec_items self.labels))) c.push-reserved.ensures.items
+      ap (λ es. sound (graph_of self.states es (vec_items self.labels))) c.push_reserved.ensures.items
           ∙ sound-added (drawn_in self) (edge c.args.from c.args.to) self.sound
-          (sym c.in-default.ensures),
+          (sym c.in_default.ensures),
       (self.no_lines, (omega (arith, self.edge_room), (self.label_room, (self.line_room, tt)))),
     )
 
@@ -30,10 +30,10 @@ unfolding drawn_in added
 returns c =
     let self = c.args.self.now in
     let call = edge c.args.from c.args.to in
-    let fine = sym c.in-default.ensures in
+    let fine = sym c.in_default.ensures in
     record {
       answers = answer_accepted (drawn_in self) call tt fine;
       leaves =
-          ap (λ es. graph_of self.states es (vec_items self.labels)) c.push-reserved.ensures.items
+          ap (λ es. graph_of self.states es (vec_items self.labels)) c.push_reserved.ensures.items
           ∙ after_accepted (drawn_in self) call fine;
     }

@@ -27,16 +27,16 @@ returns-then-joined c =
     sym
     (edge_there (drawn_in c.args.self.now) c.args.from c.args.to c.if-from-self.false
     c.if-to-self.false
-    (sym (c.if-joined.ensures ∙ ap test c.as-slice.ensures.value)))
+    (sym (c.if-joined.ensures ∙ ap test c.as_slice.ensures.value)))
 
-pub returns-then-len-ge-MOST-EDGES : goal.returns-then-len-ge-MOST-EDGES
+pub returns-then-len-ge-MOST_EDGES : goal.returns-then-len-ge-MOST_EDGES
 unfolding drawn_in
-returns-then-len-ge-MOST-EDGES c =
+returns-then-len-ge-MOST_EDGES c =
     let test = any (is_edge c.args.from c.args.to) in
     sym
     (edge_full (drawn_in c.args.self.now) c.args.from c.args.to c.if-from-self.false
     c.if-to-self.false
-    (sym (c.if-joined.ensures ∙ ap test c.as-slice.ensures.value))
+    (sym (c.if-joined.ensures ∙ ap test c.as_slice.ensures.value))
     (omega (arith, c.args.self.now.edges.ok.0)))
 
 pub returns : goal.returns
@@ -46,5 +46,5 @@ returns c =
     sym
     (edge_fine (drawn_in c.args.self.now) c.args.from c.args.to c.if-from-self.false
     c.if-to-self.false
-    (sym (c.if-joined.ensures ∙ ap test c.as-slice.ensures.value))
+    (sym (c.if-joined.ensures ∙ ap test c.as_slice.ensures.value))
     (omega (arith, c.args.self.now.edges.ok.0)))

@@ -13,27 +13,27 @@ use Rattle.std.proofs.lemmas.List.{length-map}
 pub copied-values-requires : goal.copied-values-requires
 copied-values-requires c =
     (label_small (drawn_in c.args.self.now) c.args.state c.args.predicate c.args.values.now
-    (sym c.in-default.ensures)).0
+    (sym c.in_default.ensures)).0
 
-pub push-reserved-requires : goal.push-reserved-requires
+pub push_reserved-requires : goal.push_reserved-requires
 unfolding drawn_in
-push-reserved-requires c =
+push_reserved-requires c =
     let self = c.args.self.now in
     let room =
     (label_small (drawn_in self) c.args.state c.args.predicate c.args.values.now
-    (sym c.in-default.ensures)).1 in
+    (sym c.in_default.ensures)).1 in
     omega (arith, self.labels.ok.0, self.label_room, length-map (vec_items self.labels) label_of)
 
-pub invariant-of-self : goal.invariant-of-self
+pub invariant_of-self : goal.invariant_of-self
 unfolding drawn_in added
-invariant-of-self c =
+invariant_of-self c =
     let self = c.args.self.now in
     let call = label c.args.state c.args.predicate c.args.values.now in
-    let pushed : map label_of (vec_items c.push-reserved.new.self) ≡ (added (drawn_in self) call).labels =
-    labels_push (vec_items self.labels) _ _ c.args.values.now c.push-reserved.ensures.items
+    let pushed : map label_of (vec_items c.push_reserved.new.self) ≡ (added (drawn_in self) call).labels =
+    labels_push (vec_items self.labels) _ _ c.args.values.now c.push_reserved.ensures.items
     c.copied-values.ensures in (
       ap (λ ls. sound record { states = self.states; edges = vec_items self.edges; labels = ls }) pushed
-          ∙ sound-added (drawn_in self) call self.sound (sym c.in-default.ensures),
+          ∙ sound-added (drawn_in self) call self.sound (sym c.in_default.ensures),
       (self.no_lines, (self.edge_room, (omega (arith, self.label_room), (self.line_room, tt)))),
     )
 
@@ -42,9 +42,9 @@ unfolding drawn_in added
 returns c =
     let self = c.args.self.now in
     let call = label c.args.state c.args.predicate c.args.values.now in
-    let fine = sym c.in-default.ensures in
-    let pushed : map label_of (vec_items c.push-reserved.new.self) ≡ (added (drawn_in self) call).labels =
-    labels_push (vec_items self.labels) _ _ c.args.values.now c.push-reserved.ensures.items
+    let fine = sym c.in_default.ensures in
+    let pushed : map label_of (vec_items c.push_reserved.new.self) ≡ (added (drawn_in self) call).labels =
+    labels_push (vec_items self.labels) _ _ c.args.values.now c.push_reserved.ensures.items
     c.copied-values.ensures in
     record {
       answers = answer_accepted (drawn_in self) call tt fine;

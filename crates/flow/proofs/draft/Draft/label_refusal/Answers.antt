@@ -27,18 +27,18 @@ returns-then-labelled c =
     let test = any (is_label c.args.state c.args.predicate c.args.values.now) in
     sym
     (label_there (drawn_in c.args.self.now) c.args.state c.args.predicate c.args.values.now
-    c.if-state-self.false c.if-predicate-ge-PREDICATES.false c.if-values-gt-MOST-ARGUMENTS.false
-    (sym (c.if-labelled.ensures ∙ ap (λ l. test (map label_of l)) c.as-slice.ensures.value)))
+    c.if-state-self.false c.if-predicate-ge-PREDICATES.false c.if-values-gt-MOST_ARGUMENTS.false
+    (sym (c.if-labelled.ensures ∙ ap (λ l. test (map label_of l)) c.as_slice.ensures.value)))
 
-pub returns-then-len-ge-MOST-LABELS : goal.returns-then-len-ge-MOST-LABELS
+pub returns-then-len-ge-MOST_LABELS : goal.returns-then-len-ge-MOST_LABELS
 unfolding drawn_in
-returns-then-len-ge-MOST-LABELS c =
+returns-then-len-ge-MOST_LABELS c =
     let test = any (is_label c.args.state c.args.predicate c.args.values.now) in
     let labels = c.args.self.now.labels in
     sym
     (label_full (drawn_in c.args.self.now) c.args.state c.args.predicate c.args.values.now
-    c.if-state-self.false c.if-predicate-ge-PREDICATES.false c.if-values-gt-MOST-ARGUMENTS.false
-    (sym (c.if-labelled.ensures ∙ ap (λ l. test (map label_of l)) c.as-slice.ensures.value))
+    c.if-state-self.false c.if-predicate-ge-PREDICATES.false c.if-values-gt-MOST_ARGUMENTS.false
+    (sym (c.if-labelled.ensures ∙ ap (λ l. test (map label_of l)) c.as_slice.ensures.value))
     (omega (arith, labels.ok.0, length-map (vec_items labels) label_of)))
 
 pub returns : goal.returns
@@ -48,6 +48,6 @@ returns c =
     let labels = c.args.self.now.labels in
     sym
     (label_fine (drawn_in c.args.self.now) c.args.state c.args.predicate c.args.values.now
-    c.if-state-self.false c.if-predicate-ge-PREDICATES.false c.if-values-gt-MOST-ARGUMENTS.false
-    (sym (c.if-labelled.ensures ∙ ap (λ l. test (map label_of l)) c.as-slice.ensures.value))
+    c.if-state-self.false c.if-predicate-ge-PREDICATES.false c.if-values-gt-MOST_ARGUMENTS.false
+    (sym (c.if-labelled.ensures ∙ ap (λ l. test (map label_of l)) c.as_slice.ensures.value))
     (omega (arith, labels.ok.0, length-map (vec_items labels) label_of)))

@@ -6,15 +6,15 @@ use Rattle.flow.proofs.Refusing.{after_accepted, answer_accepted}
 use Rattle.flow.proofs.Soundness.{sound-added, sound_states}
 use Rattle.flow.proofs.draft.Draft.state.Goals as goal
 
-pub overflow-add-self : goal.overflow-add-self
+pub overflow_add-self : goal.overflow_add-self
 unfolding drawn_in
-overflow-add-self c = let few = sound_states (drawn_in c.args.self.now) c.args.self.now.sound in omega arith
+overflow_add-self c = let few = sound_states (drawn_in c.args.self.now) c.args.self.now.sound in omega arith
 
-pub invariant-of-self : goal.invariant-of-self
+pub invariant_of-self : goal.invariant_of-self
 unfolding drawn_in added
-invariant-of-self c =
+invariant_of-self c =
     let self = c.args.self.now in (
-      sound-added (drawn_in self) state self.sound (sym c.in-default.ensures),
+      sound-added (drawn_in self) state self.sound (sym c.in_default.ensures),
       (self.no_lines, (self.edge_room, (self.label_room, (self.line_room, tt)))),
     )
 
@@ -22,5 +22,5 @@ pub returns : goal.returns
 unfolding drawn_in added
 returns c =
     let g = drawn_in c.args.self.now in
-    let fine = sym c.in-default.ensures in
+    let fine = sym c.in_default.ensures in
     record { answers = answer_accepted g state g.states fine; leaves = after_accepted g state fine }

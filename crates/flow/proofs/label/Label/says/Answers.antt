@@ -13,8 +13,8 @@ returns c =
     let values = c.args.values.now in
     let same : c.eq.result ≡ same_numbers (listed self.values) values =
     same_from_decides _ _ (slice_eq-Decides Decides-eqb _ _ _ c.eq.ensures)
-    (same_numbers_decides c.as-slice.result.now values)
-    ∙ ap (λ l. same_numbers l values) c.as-slice.ensures in
+    (same_numbers_decides c.as_slice.result.now values)
+    ∙ ap (λ l. same_numbers l values) c.as_slice.ensures in
     rw (
       eq-eqb self.state c.args.state c.if-self-state.false,
       eq-eqb self.predicate c.args.predicate

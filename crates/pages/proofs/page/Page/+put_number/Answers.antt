@@ -13,7 +13,7 @@ returns t c =
     elim c.if-n-ge10.branch [
       | then-n-ge10 w ↦
           then_add was front (shown c.put.new.self) (decimal (n / 10)) ((48 + n % 10) ∷ [])
-          (ap shown w.self-is ∙ w.put-number.ensures) c.put.ensures
+          (ap shown w.self-is ∙ w.put_number.ensures) c.put.ensures
           ∙ ap (add was) (sym (decimal_step n (omega arith) (omega arith)))
       | else-n-ge10 w ↦
           let e : 48 + n % 10 ≡ 48 + n = omega arith in

@@ -4,4 +4,4 @@ use Rattle.pages.proofs.page.Page.new.Goals as goal
 
 pub returns : goal.returns
 unfolding shown
-returns c = ap (λ l. Some l) c.in-ok-bytes.ensures.items
+returns c = ap (λ l. Some l) c.in_ok-bytes.ensures.items

@@ -9,9 +9,9 @@ pub loop-n-preserved : goal.loop-n-preserved
 loop-n-preserved c =
     let ns = c.args.numbers.now in
     let i = c.loop-n.n-index in
-    add_step (shown c.loop-n.self) (shown c.put-number.new.self) _ (as_fields (drop (i + 1) ns))
+    add_step (shown c.loop-n.self) (shown c.put_number.new.self) _ (as_fields (drop (i + 1) ns))
     (as_fields (drop i ns))
-    (then_add _ _ _ _ _ c.put.ensures c.put-number.ensures) (ap as_fields (drop_more ns i 0 (omega arith)))
+    (then_add _ _ _ _ _ c.put.ensures c.put_number.ensures) (ap as_fields (drop_more ns i 0 (omega arith)))
     ∙ c.loop-n.invariant
 
 pub returns : goal.returns

@@ -10,10 +10,10 @@ returns c =
     let number = decimal c.args.n in
     elim c.if-not-first.branch [
       | then-not-first w ↦
-          then_add was (shown c.if-not-first.self) (shown c.put-number.new.self) (32 ∷ []) number
-          (ap shown w.self-is ∙ w.put.ensures) c.put-number.ensures
+          then_add was (shown c.if-not-first.self) (shown c.put_number.new.self) (32 ∷ []) number
+          (ap shown w.self-is ∙ w.put.ensures) c.put_number.ensures
           ∙ ap (λ t. add was (cond t [] (32 ∷ []) ++ number)) (sym w.if-not-first.true)
       | else-not-first w ↦
-          c.put-number.ensures ∙ ap (λ p. add (shown p) number) w.self-is
+          c.put_number.ensures ∙ ap (λ p. add (shown p) number) w.self-is
           ∙ ap (λ t. add was (cond t [] (32 ∷ []) ++ number)) (sym w.if-not-first.false)
     ]

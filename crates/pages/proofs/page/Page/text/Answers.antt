@@ -8,4 +8,4 @@ returns-then-self c = rw c.if-self.true
 
 pub returns : goal.returns
 unfolding shown
-returns c = rw c.if-self.false (ap (λ l. Some l) c.as-slice.ensures.value)
+returns c = rw c.if-self.false (ap (λ l. Some l) c.as_slice.ensures.value)

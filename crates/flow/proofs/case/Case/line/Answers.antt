@@ -21,15 +21,14 @@ invariant_of-self c =
     let line = line_of c.in-Ok.line in
     let found = entry-right (lines_in self) c.args.character c.args.numbers.now line
     (sym c.in-Ok.ensures) in
-    let room = found.1 in (
-      self.sound,
-      (
-        ap (λ ls. sound_sheet (map line_of ls)) c.push_reserved.ensures.items
-            ∙ ap sound_sheet (map_push line_of (vec_items self.lines) c.in-Ok.line)
-            ∙ sound_push (lines_in self) line self.ordered found.0,
-        (omega (arith, length-lines self), (omega (arith, self.line_room), tt)),
-      ),
-    )
+    let room = found.1 in record {
+      sound = self.sound;
+      ordered = ap (λ ls. sound_sheet (map line_of ls)) c.push_reserved.ensures.items
+          ∙ ap sound_sheet (map_push line_of (vec_items self.lines) c.in-Ok.line)
+          ∙ sound_push (lines_in self) line self.ordered found.0;
+      few_lines = omega (arith, length-lines self);
+      line_room = omega (arith, self.line_room);
+    }
 
 pub returns-in-Ok : goal.returns-in-Ok
 unfolding lines_in graph_in

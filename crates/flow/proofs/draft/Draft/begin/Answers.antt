@@ -12,7 +12,7 @@ invariant_of-result c =
     let es : vec_items room.edges ≡ [] = nil_from_length _ (omega (arith, room.edges.ok.0, room.no_edges)) in
     let ls : vec_items room.labels ≡ [] = nil_from_length _
     (omega (arith, room.labels.ok.0, room.no_labels)) in
-    (rw (es, ls), (room.no_lines, (room.edge_room, (room.label_room, (room.line_room, tt)))))
+    record { sound = rw (es, ls); no_lines = room.no_lines; edge_room = room.edge_room; label_room = room.label_room; line_room = room.line_room }
 
 pub returns : goal.returns
 unfolding drawn_in

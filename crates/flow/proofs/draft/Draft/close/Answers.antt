@@ -54,11 +54,13 @@ invariant_of-result c =
     let all : c.loop-state.state ≡ self.states = omega arith in
     let edges = c.loop-state.invariant.0 ∙ ap (λ n. vec_items self.edges ++ loops (vec_items self.edges) n) all in
     let none : vec_items self.lines ≡ [] = nil_from_length _
-    (omega (arith, self.lines.ok.0, self.no_lines)) in (
-      ap (λ es. sound_closed (graph_of self.states es (vec_items self.labels))) edges
-          ∙ sound_once_closed (drawn_in self) self.sound,
-      (ap (λ ls. sound_sheet (map line_of ls)) none, (omega (arith, self.no_lines), (self.line_room, tt))),
-    )
+    (omega (arith, self.lines.ok.0, self.no_lines)) in record {
+      sound = ap (λ es. sound_closed (graph_of self.states es (vec_items self.labels))) edges
+          ∙ sound_once_closed (drawn_in self) self.sound;
+      ordered = ap (λ ls. sound_sheet (map line_of ls)) none;
+      few_lines = omega (arith, self.no_lines);
+      line_room = self.line_room;
+    }
 
 pub returns : goal.returns
 unfolding drawn_in graph_in lines_in

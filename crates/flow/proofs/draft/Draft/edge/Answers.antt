@@ -18,12 +18,15 @@ push_reserved-requires c =
 pub invariant_of-self : goal.invariant_of-self
 unfolding drawn_in added
 invariant_of-self c =
-    let self = c.args.self.now in (
-      ap (λ es. sound (graph_of self.states es (vec_items self.labels))) c.push_reserved.ensures.items
+    let self = c.args.self.now in record {
+      sound = ap (λ es. sound (graph_of self.states es (vec_items self.labels))) c.push_reserved.ensures.items
           ∙ sound-added (drawn_in self) (edge c.args.from c.args.to) self.sound
-          (sym c.in_default.ensures),
-      (self.no_lines, (omega (arith, self.edge_room), (self.label_room, (self.line_room, tt)))),
-    )
+          (sym c.in_default.ensures);
+      no_lines = self.no_lines;
+      edge_room = omega (arith, self.edge_room);
+      label_room = self.label_room;
+      line_room = self.line_room;
+    }
 
 pub returns : goal.returns
 unfolding drawn_in added

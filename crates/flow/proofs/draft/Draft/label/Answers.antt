@@ -31,11 +31,14 @@ invariant_of-self c =
     let call = label c.args.state c.args.predicate c.args.values.now in
     let pushed : map label_of (vec_items c.push_reserved.new.self) ≡ (added (drawn_in self) call).labels =
     labels_push (vec_items self.labels) _ _ c.args.values.now c.push_reserved.ensures.items
-    c.copied-values.ensures in (
-      ap (λ ls. sound record { states = self.states; edges = vec_items self.edges; labels = ls }) pushed
-          ∙ sound-added (drawn_in self) call self.sound (sym c.in_default.ensures),
-      (self.no_lines, (self.edge_room, (omega (arith, self.label_room), (self.line_room, tt)))),
-    )
+    c.copied-values.ensures in record {
+      sound = ap (λ ls. sound record { states = self.states; edges = vec_items self.edges; labels = ls }) pushed
+          ∙ sound-added (drawn_in self) call self.sound (sym c.in_default.ensures);
+      no_lines = self.no_lines;
+      edge_room = self.edge_room;
+      label_room = omega (arith, self.label_room);
+      line_room = self.line_room;
+    }
 
 pub returns : goal.returns
 unfolding drawn_in added

@@ -13,10 +13,7 @@ overflow_add-self c = let few = sound_states (drawn_in c.args.self.now) c.args.s
 pub invariant_of-self : goal.invariant_of-self
 unfolding drawn_in added
 invariant_of-self c =
-    let self = c.args.self.now in (
-      sound-added (drawn_in self) state self.sound (sym c.in_default.ensures),
-      (self.no_lines, (self.edge_room, (self.label_room, (self.line_room, tt)))),
-    )
+    let self = c.args.self.now in record { sound = sound-added (drawn_in self) state self.sound (sym c.in_default.ensures); no_lines = self.no_lines; edge_room = self.edge_room; label_room = self.label_room; line_room = self.line_room }
 
 pub returns : goal.returns
 unfolding drawn_in added

@@ -50,7 +50,7 @@ pub trait Kind {
 
 /// Does nothing: its contract is the theorem that the laws of a kind give all that the matcher builds on.
 pub fn laws_suffice<K: Kind>() -> u8
-    ensures { Consequences model }
+    ensures { Consequences K.model }
 {
     0
 }

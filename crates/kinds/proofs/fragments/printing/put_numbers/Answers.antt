@@ -17,8 +17,8 @@ loop-k-preserved c =
     elim c.if-has.branch [
       | then-has w ↦
           let here = rest_in bits k (omega arith) (sym c.has.ensures ∙ w.if-has.true) in
-          let now = shown w.put-spaced.new.self in
-          let printed = add_more was now number (separated false on) w.put-spaced.ensures in
+          let now = shown w.put_spaced.new.self in
+          let printed = add_more was now number (separated false on) w.put_spaced.ensures in
           let e = ap (separated first) here in
           cc
       | else-has w ↦

@@ -7,8 +7,8 @@ pub returns : goal.returns
 returns c =
     let low = decimal c.args.b.now.low in
     let high = decimal c.args.b.now.high in
-    let one = shown c.put-number.new.self in
-    let two = shown c.put-all.new.self in
-    let e = add_more (shown c.args.page.now) one low (codes ".." ++ high) c.put-number.ensures in
-    let f = add_more one two (codes "..") high c.put-all.ensures in
+    let one = shown c.put_number.new.self in
+    let two = shown c.put_all.new.self in
+    let e = add_more (shown c.args.page.now) one low (codes ".." ++ high) c.put_number.ensures in
+    let f = add_more one two (codes "..") high c.put_all.ensures in
     cc

@@ -18,14 +18,14 @@ fn fill<T: Copy>(table: &mut [T], value: T)
 
 /// Makes every row the blank row of state 0.
 pub fn blank_rows<K: Kind>(rows: &mut [Row<K::Box>])
-    ensures { rows.new ≡ replicate (length rows.old) (blank model 0) }
+    ensures { rows.new ≡ replicate (length rows.old) (blank K.model 0) }
 {
     fill(rows, Row::blank::<K>(0));
 }
 
 /// Makes every witness the blank one.
 pub fn blank_witnesses<K: Kind>(witnesses: &mut [Witness<K::Box>])
-    ensures { witnesses.new ≡ replicate (length witnesses.old) (blank_witness model) }
+    ensures { witnesses.new ≡ replicate (length witnesses.old) (blank_witness K.model) }
 {
     fill(witnesses, Witness::blank::<K>());
 }

@@ -6,7 +6,7 @@ use kinds::kind::Kind;
 
 /// Every check comes to exactly one outcome, for every kind of value.
 pub fn one_outcome<K: Kind>() -> u8
-    ensures { EveryCheckHasOneOutcome model }
+    ensures { EveryCheckHasOneOutcome K.model }
 {
     0
 }
@@ -20,7 +20,7 @@ pub fn reached_lines() -> u8
 
 /// An until takes at most its rows, less those of its goal, plus one round.
 pub fn few_rounds<K: Kind>() -> u8
-    ensures { RoundsAreFew model }
+    ensures { RoundsAreFew K.model }
 {
     0
 }

@@ -22,7 +22,7 @@ pub struct Denial<B> {
 // A blank row of the row's state with a piece of its box of a variable, or none past the last piece.
 fn beside<K: Kind>(row: &Row<K::Box>, variable: usize, piece: usize) -> Option<Row<K::Box>>
     requires { variable < variables }
-    ensures { result ≡ slice_get (besides model row.now variable) piece }
+    ensures { result ≡ slice_get (besides K.model row.now variable) piece }
 {
     let b = row.boxes[variable];
     match K::piece(&b, piece) {
@@ -34,7 +34,7 @@ fn beside<K: Kind>(row: &Row<K::Box>, variable: usize, piece: usize) -> Option<R
 impl<B: Copy> Denial<B> {
     /// The denial of a row, in a graph of so many states.
     pub fn of<K: Kind<Box = B>>(row: &Row<B>, states: u32) -> Denial<B>
-        ensures { left model result ≡ denial model states row.now }
+        ensures { left K.model result ≡ denial K.model states row.now }
     {
         Denial {
             of: *row,
@@ -48,7 +48,7 @@ impl<B: Copy> Denial<B> {
     // The next row of the row's own state, where no other state is to come.
     fn next_beside<K: Kind<Box = B>>(&mut self) -> Option<Row<B>>
         requires { self.old.states ≤ self.old.state }
-        ensures { Gives (left model self.old) result (left model self.new) }
+        ensures { Gives (left K.model self.old) result (left K.model self.new) }
     {
         while self.variable < BOXES {
             if self.piece < K::limit() {
@@ -65,7 +65,7 @@ impl<B: Copy> Denial<B> {
 
     /// The next row, or none where all have come.
     pub fn next<K: Kind<Box = B>>(&mut self) -> Option<Row<B>>
-        ensures { Gives (left model self.old) result (left model self.new) }
+        ensures { Gives (left K.model self.old) result (left K.model self.new) }
     {
         for state in self.state..self.states {
             self.state = state + 1;

@@ -20,7 +20,7 @@ pub struct Row<B> {
 
 // Whether the boxes are the same, place by place.
 fn same_boxes<K: Kind>(a: [K::Box; BOXES], b: [K::Box; BOXES]) -> bool
-    ensures { result ≡ same_boxes model a b }
+    ensures { result ≡ same_boxes K.model a b }
 {
     for i in 0..a.len() {
         let x = a[i];
@@ -34,7 +34,7 @@ fn same_boxes<K: Kind>(a: [K::Box; BOXES], b: [K::Box; BOXES]) -> bool
 
 // The boxes met place by place, or none where two have no value in common.
 fn meet_boxes<K: Kind>(a: [K::Box; BOXES], b: [K::Box; BOXES]) -> Option<[K::Box; BOXES]>
-    ensures { result ≡ meets model a b }
+    ensures { result ≡ meets K.model a b }
 {
     let mut met = a;
     for i in 0..BOXES {
@@ -51,7 +51,7 @@ fn meet_boxes<K: Kind>(a: [K::Box; BOXES], b: [K::Box; BOXES]) -> Option<[K::Box
 impl<B: Copy> Row<B> {
     /// The blank row of a state: each variable may have any value, and there are no witnesses.
     pub fn blank<K: Kind<Box = B>>(state: u32) -> Row<B>
-        ensures { result ≡ blank model state }
+        ensures { result ≡ blank K.model state }
     {
         Row {
             state,
@@ -63,7 +63,7 @@ impl<B: Copy> Row<B> {
     /// The row with another box for one variable. The variable is one of those that there are, below `BOXES`.
     pub fn with_box<K: Kind<Box = B>>(self, variable: usize, b: B) -> Row<B>
         requires { variable < variables }
-        ensures { result ≡ with_box model self variable b }
+        ensures { result ≡ with_box K.model self variable b }
     {
         let mut boxes = self.boxes;
         boxes[variable] = b;
@@ -76,7 +76,7 @@ impl<B: Copy> Row<B> {
 
     /// Whether the boxes are the same and all else is equal.
     pub fn equals<K: Kind<Box = B>>(&self, other: &Row<B>) -> bool
-        ensures { result ≡ equal model self.now other.now }
+        ensures { result ≡ equal K.model self.now other.now }
     {
         if self.state != other.state {
             return false;
@@ -87,7 +87,7 @@ impl<B: Copy> Row<B> {
     /// Both rows in one: their boxes met and their forests united. None where the states differ or boxes have no value
     /// in common.
     pub fn join<K: Kind<Box = B>>(&self, other: &Row<B>) -> Option<Row<B>>
-        ensures { result ≡ join model self.now other.now }
+        ensures { result ≡ join K.model self.now other.now }
     {
         let state = self.state;
         if state != other.state {

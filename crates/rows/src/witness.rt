@@ -17,7 +17,7 @@ pub struct Witness<B> {
 impl<B: Copy> Witness<B> {
     /// The blank witness: state 0, variable 0, any value, and no witnesses below it.
     pub fn blank<K: Kind<Box = B>>() -> Witness<B>
-        ensures { result ≡ blank_witness model }
+        ensures { result ≡ blank_witness K.model }
     {
         Witness {
             state: 0,
@@ -29,7 +29,7 @@ impl<B: Copy> Witness<B> {
 
     /// Whether the boxes are the same and all else is equal.
     pub fn equals<K: Kind<Box = B>>(&self, other: &Witness<B>) -> bool
-        ensures { result ≡ equal_witness model self.now other.now }
+        ensures { result ≡ equal_witness K.model self.now other.now }
     {
         if self.state != other.state || self.variable != other.variable {
             return false;

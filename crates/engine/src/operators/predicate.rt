@@ -20,7 +20,7 @@ use rows::row::Row;
 fn narrowed<K: Kind>(row: &Row<K::Box>, variable: u32, value: u32) -> Option<Row<K::Box>>
     requires { variable < variable-count }
     ensures { let held = row.now in
-        result ≡ narrower model held variable (met_with model (box_of model held variable) (model.one value)) }
+        result ≡ narrower K.model held variable (met_with K.model (box_of K.model held variable) (K.model.one value)) }
 {
     let x = variable as usize;
     let boxes = row.boxes;
@@ -38,7 +38,7 @@ fn narrowed<K: Kind>(row: &Row<K::Box>, variable: u32, value: u32) -> Option<Row
 // differ.
 fn named_row<K: Kind>(start: &Row<K::Box>, variables: &[u32], values: &[u32]) -> Option<Row<K::Box>>
     requires { every (λ x. nat_lt x variable-count) variables.now ≡ true }
-    ensures { result ≡ naming model (There start.now) variables.now values.now }
+    ensures { result ≡ naming K.model (There start.now) variables.now values.now }
 {
     if variables.len() != values.len() {
         return None;
@@ -68,8 +68,8 @@ fn state_labels<K: Kind>(
     requires small { every (λ x. nat_lt x variable-count) variables.now ≡ true }
     ensures { let graph = graph_in case.now in
         left_by result (table_in lists.new rows.new)
-        ≡ adding model (table_in lists.old rows.old) dest
-        (flat_map (of_label model graph predicate variables.now state) graph.labels) }
+        ≡ adding K.model (table_in lists.old rows.old) dest
+        (flat_map (of_label K.model graph predicate variables.now state) graph.labels) }
 {
     let blank = Row::blank::<K>(state);
     for label in case.labels() {
@@ -97,7 +97,7 @@ pub fn predicate<K: Kind>(
     requires small { every (λ x. nat_lt x variable-count) variables.now ≡ true }
     ensures { let table = table_in lists.old rows.old in
         left_by result (table_in lists.new rows.new)
-        ≡ adding model table dest (labelled model (graph_in case.now) predicate variables.now) }
+        ≡ adding K.model table dest (labelled K.model (graph_in case.now) predicate variables.now) }
 {
     for state in 0..case.states() {
         state_labels::<K>(case, lists, rows, predicate, variables, state, dest)?;

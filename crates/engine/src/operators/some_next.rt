@@ -28,7 +28,7 @@ fn add_moved<K: Kind>(
     requires apart { list ≢ dest }
     ensures { let table = table_in lists.old rows.old in
         left_by result (table_in lists.new rows.new)
-        ≡ adding model table dest (moved model to from (at table list)) }
+        ≡ adding K.model table dest (moved K.model to from (at table list)) }
 {
     for i in 0..lists.len::<K>(rows, list) {
         let mut row = lists.get::<K>(rows, list, i);
@@ -55,7 +55,7 @@ fn state_successors<K: Kind>(
     ensures { let table = table_in lists.old rows.old in
         let leads = successors (graph_in case.now) state in
         left_by result (table_in lists.new rows.new)
-        ≡ adding model table dest (flat_map (λ t. moved model state t (at table list)) leads) }
+        ≡ adding K.model table dest (flat_map (λ t. moved K.model state t (at table list)) leads) }
 {
     for edge in case.edges() {
         if edge.from == state {
@@ -79,7 +79,7 @@ pub fn some_next<K: Kind>(
     requires apart { list ≢ dest }
     ensures { let table = table_in lists.old rows.old in
         left_by result (table_in lists.new rows.new)
-        ≡ adding model table dest (stepped model (graph_in case.now) (at table list)) }
+        ≡ adding K.model table dest (stepped K.model (graph_in case.now) (at table list)) }
 {
     for state in 0..case.states() {
         state_successors::<K>(case, lists, rows, list, state, dest)?;

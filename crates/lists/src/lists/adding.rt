@@ -25,7 +25,7 @@ impl Lists {
         requires lent { Lent self.now rows.now }
         requires known { list < list_count }
         ensures { let table = table_in self.now rows.now in
-            result ≡ told model (at table list) row.now }
+            result ≡ told K.model (at table list) row.now }
     {
         for i in 0..self.len::<K>(rows, list) {
             let seen = self.get::<K>(rows, list, i);
@@ -59,7 +59,7 @@ impl Lists {
         requires lent { Lent self.old rows.old }
         requires known { list < list_count }
         ensures { left_by result (table_in self.new rows.new)
-            ≡ adding model (table_in self.old rows.old) list (row ∷ []) }
+            ≡ adding K.model (table_in self.old rows.old) list (row ∷ []) }
     {
         if self.tells::<K>(rows, list, &row) {
             return Ok(());

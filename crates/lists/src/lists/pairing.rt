@@ -24,7 +24,7 @@ impl Lists {
         requires apart { list ≢ dest }
         ensures { let table = table_in self.old rows.old in
             left_by result (table_in self.new rows.new)
-            ≡ adding model table dest (pairs model (row.now ∷ []) (at table list)) }
+            ≡ adding K.model table dest (pairs K.model (row.now ∷ []) (at table list)) }
     {
         for i in 0..self.len::<K>(rows, list) {
             let other = self.get::<K>(rows, list, i);
@@ -49,7 +49,7 @@ impl Lists {
         requires apart { ((first ≢ dest)) × ((second ≢ dest)) }
         ensures { let table = table_in self.old rows.old in
             left_by result (table_in self.new rows.new)
-            ≡ adding model table dest (pairs model (at table first) (at table second)) }
+            ≡ adding K.model table dest (pairs K.model (at table first) (at table second)) }
     {
         for i in 0..self.len::<K>(rows, first) {
             let row = self.get::<K>(rows, first, i);

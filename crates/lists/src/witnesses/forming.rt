@@ -14,7 +14,7 @@ impl Witnesses {
     fn number<K: Kind>(&self, table: &[Witness<K::Box>], witness: &Witness<K::Box>) -> Option<u8>
         requires { length table.now ≡ most_witnesses }
         ensures { let formed = formed_in self.now table.now in
-            result ≡ number_from model 0 formed witness.now }
+            result ≡ number_from K.model 0 formed witness.now }
     {
         for i in 0..self.count {
             let seen = table[i];
@@ -34,7 +34,7 @@ impl Witnesses {
     ) -> Result<u8, Shortage>
         requires { length table.old ≡ most_witnesses }
         ensures { formed_by result (formed_in self.new table.new)
-            ≡ form model (formed_in self.old table.old) witness }
+            ≡ form K.model (formed_in self.old table.old) witness }
     {
         if let Some(n) = self.number::<K>(table, &witness) {
             return Ok(n);

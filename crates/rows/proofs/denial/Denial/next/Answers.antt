@@ -23,5 +23,5 @@ loop-state-preserved g c =
 
 pub returns : goal.returns
 returns g c =
-    let rest = left g.K.Kind.model c.next-beside.new.self in
-    subst (λ rows. Gives rows c.next-beside.result rest) c.loop-state.invariant.0 c.next-beside.ensures
+    let rest = left g.K.Kind.model c.next_beside.new.self in
+    subst (λ rows. Gives rows c.next_beside.result rest) c.loop-state.invariant.0 c.next_beside.ensures

@@ -9,33 +9,33 @@ use Rattle.records.proofs.Collected.{from_all, from_bad, from_more}
 use Rattle.records.proofs.reading.sheet_call.Goals as goal
 
 -- the form of a line has an operator
-pub returns-in-err-operator : goal.returns-in-err-operator
-returns-in-err-operator c =
-    let fit = found_fit c.args.«record».now Line c.in-ok-letter.ensures c.in-Line.is in
+pub returns-in_err-operator : goal.returns-in_err-operator
+returns-in_err-operator c =
+    let fit = found_fit c.args.«record».now Line c.in_ok-letter.ensures c.in-Line.is in
     let some = ap is_some c.operator_of.ensures ∙ fit.operator in
-    absurd (true≢false (sym some ∙ sym c.in-err-operator.ensures.variant))
+    absurd (true≢false (sym some ∙ sym c.in_err-operator.ensures.variant))
 
-pub numbers-from-requires : goal.numbers-from-requires
-numbers-from-requires c =
-    let told = c.in-ok-letter.ensures in
+pub numbers_from-requires : goal.numbers_from-requires
+numbers_from-requires c =
+    let told = c.in_ok-letter.ensures in
     record { letter = omega arith; most = (found_fit c.args.«record».now Line told c.in-Line.is).most }
 
-pub returns-in-err-line : goal.returns-in-err-line
-returns-in-err-line c =
+pub returns-in_err-line : goal.returns-in_err-line
+returns-in_err-line c =
     let of = c.args.«record».now in
     let fs = fields of.text.now in
-    let fault = c.in-err-line.field-0.0 in
-    let told = c.in-ok-letter.ensures in
-    handed sheet_seen c.from-residual-in-err-line.result fault c.from-residual-in-err-line.ensures.1
+    let fault = c.in_err-line.field-0.0 in
+    let told = c.in_ok-letter.ensures in
+    handed sheet_seen c.from_residual-in_err-line.result fault c.from_residual-in_err-line.ensures.1
     ∙ found_asks of Check sheet_calls (Err fault) told c.in-Check.is (λ fit.
-    from_bad fs 2 fault (omega arith) (omega arith) c.in-err-line.ensures)
+    from_bad fs 2 fault (omega arith) (omega arith) c.in_err-line.ensures)
 
-pub returns-in-ok-line : goal.returns-in-ok-line
-returns-in-ok-line c =
+pub returns-in_ok-line : goal.returns-in_ok-line
+returns-in_ok-line c =
     let of = c.args.«record».now in
     let fs = fields of.text.now in
-    let line = c.in-ok-line.line in
-    let told = c.in-ok-letter.ensures in
+    let line = c.in_ok-line.line in
+    let told = c.in_ok-letter.ensures in
     found_asks of Check sheet_calls (Ok (line ∷ [])) told c.in-Check.is (λ fit.
-    from_more fs 2 line (omega arith) (omega arith) c.in-ok-line.ensures
+    from_more fs 2 line (omega arith) (omega arith) c.in_ok-line.ensures
     ∙ ap (onto line) (from_all fs 3 (omega arith)))

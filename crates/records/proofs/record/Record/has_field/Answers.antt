@@ -4,6 +4,6 @@ use Rattle.records.proofs.record.Record.has_field.Goals as goal
 
 pub returns : goal.returns
 returns c =
-    c.is-some.ensures ∙ sym (mapped_has (λ f. f.bytes.now) c.field.result)
+    c.is_some.ensures ∙ sym (mapped_has (λ f. f.bytes.now) c.field.result)
     ∙ ap is_some c.field.ensures.bytes
     ∙ field_at_has c.args.self.now.text.now c.args.number c.requires

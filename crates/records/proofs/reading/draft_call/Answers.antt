@@ -22,91 +22,91 @@ returns-in-Close c =
     found_asks of Close draft_calls (Ok []) told c.in-Close.is (λ fit.
     from_all (fields of.text.now) 2 (omega arith))
 
-pub returns-in_err-from : goal.returns-in_err-from
-returns-in_err-from c =
+pub returns-in_err-from-in-Edge : goal.returns-in_err-from-in-Edge
+returns-in_err-from-in-Edge c =
     let of = c.args.«record».now in
     let fs = fields of.text.now in
-    let fault = c.in_err-from.field-0.0 in
+    let fault = c.in_err-from-in-Edge.field-0.0 in
     let told = c.in_ok-letter.ensures in
-    handed draft_seen c.from_residual-in_err-from.result fault c.from_residual-in_err-from.ensures.1
+    handed draft_seen c.from_residual-in_err-from-in-Edge.result fault c.from_residual-in_err-from-in-Edge.ensures.1
     ∙ found_asks of Edge draft_calls (Err fault) told c.in-Edge.is (λ fit.
-    from_bad fs 2 fault (omega arith) (omega arith) c.in_err-from.ensures)
+    from_bad fs 2 fault (omega arith) (omega arith) c.in_err-from-in-Edge.ensures)
 
-pub returns-in_err-to : goal.returns-in_err-to
-returns-in_err-to c =
+pub returns-in_err-to-in-Edge : goal.returns-in_err-to-in-Edge
+returns-in_err-to-in-Edge c =
     let of = c.args.«record».now in
     let fs = fields of.text.now in
-    let from = c.in_ok-from.from in
-    let fault = c.in_err-to.field-0.0 in
+    let from = c.in_ok-from-in-Edge.from in
+    let fault = c.in_err-to-in-Edge.field-0.0 in
     let told = c.in_ok-letter.ensures in
-    handed draft_seen c.from_residual-in_err-to.result fault c.from_residual-in_err-to.ensures.1
+    handed draft_seen c.from_residual-in_err-to-in-Edge.result fault c.from_residual-in_err-to-in-Edge.ensures.1
     ∙ found_asks of Edge draft_calls (Err fault) told c.in-Edge.is (λ fit.
-    from_more fs 2 from (omega arith) (omega arith) c.in_ok-from.ensures
-    ∙ ap (onto from) (from_bad fs 3 fault (omega arith) (omega arith) c.in_err-to.ensures))
+    from_more fs 2 from (omega arith) (omega arith) c.in_ok-from-in-Edge.ensures
+    ∙ ap (onto from) (from_bad fs 3 fault (omega arith) (omega arith) c.in_err-to-in-Edge.ensures))
 
-pub returns-in_ok-to : goal.returns-in_ok-to
-returns-in_ok-to c =
+pub returns-in_ok-to-in-Edge : goal.returns-in_ok-to-in-Edge
+returns-in_ok-to-in-Edge c =
     let of = c.args.«record».now in
     let fs = fields of.text.now in
-    let from = c.in_ok-from.from in
-    let to = c.in_ok-to.to in
+    let from = c.in_ok-from-in-Edge.from in
+    let to = c.in_ok-to-in-Edge.to in
     let told = c.in_ok-letter.ensures in
     found_asks of Edge draft_calls (Ok (from ∷ to ∷ [])) told c.in-Edge.is (λ fit.
-    from_more fs 2 from (omega arith) (omega arith) c.in_ok-from.ensures
-    ∙ ap (onto from) (from_more fs 3 to (omega arith) (omega arith) c.in_ok-to.ensures
+    from_more fs 2 from (omega arith) (omega arith) c.in_ok-from-in-Edge.ensures
+    ∙ ap (onto from) (from_more fs 3 to (omega arith) (omega arith) c.in_ok-to-in-Edge.ensures
     ∙ ap (onto to) (from_all fs 4 (omega arith))))
 
-pub returns-in_err-state : goal.returns-in_err-state
-returns-in_err-state c =
+pub returns-in_err-state-in-Label : goal.returns-in_err-state-in-Label
+returns-in_err-state-in-Label c =
     let of = c.args.«record».now in
     let fs = fields of.text.now in
-    let fault = c.in_err-state.field-0.0 in
+    let fault = c.in_err-state-in-Label.field-0.0 in
     let told = c.in_ok-letter.ensures in
-    handed draft_seen c.from_residual-in_err-state.result fault c.from_residual-in_err-state.ensures.1
+    handed draft_seen c.from_residual-in_err-state-in-Label.result fault c.from_residual-in_err-state-in-Label.ensures.1
     ∙ found_asks of Label draft_calls (Err fault) told c.in-Label.is (λ fit.
-    from_bad fs 2 fault (omega arith) (omega arith) c.in_err-state.ensures)
+    from_bad fs 2 fault (omega arith) (omega arith) c.in_err-state-in-Label.ensures)
 
-pub returns-in_err-predicate : goal.returns-in_err-predicate
-returns-in_err-predicate c =
+pub returns-in_err-predicate-in-Label : goal.returns-in_err-predicate-in-Label
+returns-in_err-predicate-in-Label c =
     let of = c.args.«record».now in
     let fs = fields of.text.now in
-    let state = c.in_ok-state.state in
-    let fault = c.in_err-predicate.field-0.0 in
+    let state = c.in_ok-state-in-Label.state in
+    let fault = c.in_err-predicate-in-Label.field-0.0 in
     let told = c.in_ok-letter.ensures in
-    let exit = c.from_residual-in_err-predicate in
+    let exit = c.from_residual-in_err-predicate-in-Label in
     handed draft_seen exit.result fault exit.ensures.1
     ∙ found_asks of Label draft_calls (Err fault) told c.in-Label.is (λ fit.
-    from_more fs 2 state (omega arith) (omega arith) c.in_ok-state.ensures
-    ∙ ap (onto state) (from_bad fs 3 fault (omega arith) (omega arith) c.in_err-predicate.ensures))
+    from_more fs 2 state (omega arith) (omega arith) c.in_ok-state-in-Label.ensures
+    ∙ ap (onto state) (from_bad fs 3 fault (omega arith) (omega arith) c.in_err-predicate-in-Label.ensures))
 
 pub numbers_from-requires : goal.numbers_from-requires
 numbers_from-requires c =
     let told = c.in_ok-letter.ensures in
     record { letter = omega arith; most = (found_fit c.args.«record».now Label told c.in-Label.is).most }
 
-pub returns-in_err-values : goal.returns-in_err-values
-returns-in_err-values c =
+pub returns-in_err-values-in-Label : goal.returns-in_err-values-in-Label
+returns-in_err-values-in-Label c =
     let of = c.args.«record».now in
     let fs = fields of.text.now in
-    let state = c.in_ok-state.state in
-    let predicate = c.in_ok-predicate.predicate in
-    let fault = c.in_err-values.field-0.0 in
+    let state = c.in_ok-state-in-Label.state in
+    let predicate = c.in_ok-predicate-in-Label.predicate in
+    let fault = c.in_err-values-in-Label.field-0.0 in
     let told = c.in_ok-letter.ensures in
-    handed draft_seen c.from_residual-in_err-values.result fault c.from_residual-in_err-values.ensures.1
+    handed draft_seen c.from_residual-in_err-values-in-Label.result fault c.from_residual-in_err-values-in-Label.ensures.1
     ∙ found_asks of Label draft_calls (Err fault) told c.in-Label.is (λ fit.
-    from_more fs 2 state (omega arith) (omega arith) c.in_ok-state.ensures
-    ∙ ap (onto state) (from_more fs 3 predicate (omega arith) (omega arith) c.in_ok-predicate.ensures
-    ∙ ap (onto predicate) (sym c.in_err-values.ensures)))
+    from_more fs 2 state (omega arith) (omega arith) c.in_ok-state-in-Label.ensures
+    ∙ ap (onto state) (from_more fs 3 predicate (omega arith) (omega arith) c.in_ok-predicate-in-Label.ensures
+    ∙ ap (onto predicate) (sym c.in_err-values-in-Label.ensures)))
 
-pub returns-in_ok-values : goal.returns-in_ok-values
-returns-in_ok-values c =
+pub returns-in_ok-values-in-Label : goal.returns-in_ok-values-in-Label
+returns-in_ok-values-in-Label c =
     let of = c.args.«record».now in
     let fs = fields of.text.now in
-    let state = c.in_ok-state.state in
-    let predicate = c.in_ok-predicate.predicate in
-    let values = listed c.in_ok-values.values in
+    let state = c.in_ok-state-in-Label.state in
+    let predicate = c.in_ok-predicate-in-Label.predicate in
+    let values = listed c.in_ok-values-in-Label.values in
     let told = c.in_ok-letter.ensures in
     found_asks of Label draft_calls (Ok (state ∷ predicate ∷ values)) told c.in-Label.is (λ fit.
-    from_more fs 2 state (omega arith) (omega arith) c.in_ok-state.ensures
-    ∙ ap (onto state) (from_more fs 3 predicate (omega arith) (omega arith) c.in_ok-predicate.ensures
-    ∙ ap (onto predicate) (sym c.in_ok-values.ensures)))
+    from_more fs 2 state (omega arith) (omega arith) c.in_ok-state-in-Label.ensures
+    ∙ ap (onto state) (from_more fs 3 predicate (omega arith) (omega arith) c.in_ok-predicate-in-Label.ensures
+    ∙ ap (onto predicate) (sym c.in_ok-values-in-Label.ensures)))

@@ -20,8 +20,8 @@ pub(crate) fn follow_records<P: Phase>(
     requires { splitter.old.count + length splitter.old.left.now ≤ limit }
     ensures { let from = splitter.old in let to = splitter.new in
         Followed
-        (standing phase.old) from.count from.left.now (shown page.old)
-        (standing phase.new) to.count to.left.now (shown page.new) result }
+        (P.standing phase.old) from.count from.left.now (shown page.old)
+        (P.standing phase.new) to.count to.left.now (shown page.new) result }
 {
     let mut refused = 0;
     let mut checks = 0;

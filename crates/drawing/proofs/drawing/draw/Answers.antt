@@ -7,21 +7,21 @@ use Rattle.records.specs.Texts.{records}
 
 pub returns-then-input-gt-LIMIT : goal.returns-then-input-gt-LIMIT
 returns-then-input-gt-LIMIT c =
-    c.give-notice.ensures ∙ ap (λ t. Some t) (sym (output_long c.args.input.now c.if-input-gt-LIMIT.true))
+    c.give_notice.ensures ∙ ap (λ t. Some t) (sym (output_long c.args.input.now c.if-input-gt-LIMIT.true))
 
-pub returns-then-is-none : goal.returns-then-is-none
-returns-then-is-none c =
+pub returns-then-is_none : goal.returns-then-is_none
+returns-then-is_none c =
     let input = c.args.input.now in
-    let printed = c.draw-text.ensures ∙ ap (λ o. add o (drawing (records input))) c.clear.ensures in
-    let none = ap is_some (sym c.text.ensures) ∙ some_mapped _ c.text.result ∙ c.if-is-none.ensures in
-    c.give-notice-then-is-none.ensures
+    let printed = c.draw_text.ensures ∙ ap (λ o. add o (drawing (records input))) c.clear.ensures in
+    let none = ap is_some (sym c.text.ensures) ∙ some_mapped _ c.text.result ∙ c.if-is_none.ensures in
+    c.give_notice-then-is_none.ensures
     ∙ ap (λ t. Some t) (only_notice _ (drawing (records input)) printed none
     ∙ sym (output_short input c.if-input-gt-LIMIT.false))
 
-pub returns-else-is-none : goal.returns-else-is-none
-returns-else-is-none c =
+pub returns-else-is_none : goal.returns-else-is_none
+returns-else-is_none c =
     let input = c.args.input.now in
-    let printed = c.draw-text.ensures ∙ ap (λ o. add o (drawing (records input))) c.clear.ensures in
-    let some = ap is_some (sym c.text.ensures) ∙ some_mapped _ c.text.result ∙ c.if-is-none.ensures in
+    let printed = c.draw_text.ensures ∙ ap (λ o. add o (drawing (records input))) c.clear.ensures in
+    let some = ap is_some (sym c.text.ensures) ∙ some_mapped _ c.text.result ∙ c.if-is_none.ensures in
     all_of_it _ (drawing (records input)) printed some
     ∙ ap (λ t. Some t) (sym (output_short input c.if-input-gt-LIMIT.false))

@@ -36,5 +36,5 @@ returns c =
     ∷ c.args.refused
     ∷ c.args.checks
     ∷ []) = cc in
-    then_add _ _ _ _ _ (then_add _ _ _ _ _ c.put.ensures c.put-fields.ensures) c.end-record.ensures
+    then_add _ _ _ _ _ (then_add _ _ _ _ _ c.put.ensures c.put_fields.ensures) c.end_record.ensures
     ∙ ap (λ ns. add was ((68 ∷ as_fields ns) ++ crlf)) counts

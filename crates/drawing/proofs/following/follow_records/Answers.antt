@@ -20,8 +20,8 @@ loop-record-preserved-in-Goes g c =
     c.follow.ensures.leaves
     (sym c.in-Ok.ensures.answers ∙ ap (λ s. Ok s) c.in-Goes.is)
 
-pub overflow-add-checks : goal.overflow-add-checks
-overflow-add-checks g c = omega (arith, c.loop-record.invariant.few, c.loop-record.invariant.small)
+pub overflow_add-checks : goal.overflow_add-checks
+overflow_add-checks g c = omega (arith, c.loop-record.invariant.few, c.loop-record.invariant.small)
 
 pub loop-record-preserved-in-Checks : goal.loop-record-preserved-in-Checks
 loop-record-preserved-in-Checks g c =
@@ -35,13 +35,13 @@ returns-in-Closes g c =
     c.follow.ensures.leaves
     (sym c.in-Ok.ensures.answers ∙ ap (λ s. Ok s) c.in-Closes.is)
 
-pub overflow-cast-number : goal.overflow-cast-number
-overflow-cast-number g c =
+pub overflow_cast-number : goal.overflow_cast-number
+overflow_cast-number g c =
     let step = c.in-Some.ensures in
     omega (arith, c.number.ensures, step.numbered, step.shorter, c.loop-record.invariant.small)
 
-pub overflow-add-refused : goal.overflow-add-refused
-overflow-add-refused g c = omega (arith, c.loop-record.invariant.few, c.loop-record.invariant.small)
+pub overflow_add-refused : goal.overflow_add-refused
+overflow_add-refused g c = omega (arith, c.loop-record.invariant.few, c.loop-record.invariant.small)
 
 pub loop-record-preserved : goal.loop-record-preserved
 loop-record-preserved g c =
@@ -55,4 +55,4 @@ loop-record-preserved g c =
     (λ k. add (shown c.loop-record.page) (refused_text record { at = k; fault = c.in-Err.fault })) at)
 
 pub returns : goal.returns
-returns g c = progress_all _ _ _ _ _ _ _ _ _ _ c.loop-record.invariant _ _ c.in-default.ensures
+returns g c = progress_all _ _ _ _ _ _ _ _ _ _ c.loop-record.invariant _ _ c.in_default.ensures

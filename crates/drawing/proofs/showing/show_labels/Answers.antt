@@ -17,7 +17,7 @@ loop-label-preserved c =
     elim c.if-label-state.branch [
       | then-label-state w ↦
           ap (λ p. add (shown p) rest) w.page-is
-          ∙ add_step was (shown w.show-label.new.page) _ rest (fields_of (drop i ls) s) w.show-label.ensures
+          ∙ add_step was (shown w.show_label.new.page) _ rest (fields_of (drop i ls) s) w.show_label.ensures
           (label_here ls i s l c.loop-label-test.true c.label-item.is w.if-label-state.true)
           ∙ c.loop-label.invariant
       | else-label-state w ↦

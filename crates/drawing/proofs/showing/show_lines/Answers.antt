@@ -14,9 +14,9 @@ pub loop-number-preserved : goal.loop-number-preserved
 loop-number-preserved c =
     let ls = c.lines-line-items.result.now in
     let i = c.loop-number.number in
-    add_step (shown c.loop-number.page) (shown c.show-line.new.page) _
+    add_step (shown c.loop-number.page) (shown c.show_line.new.page) _
     (lines_text (i + 1) (map line_of (drop (i + 1) ls))) (lines_text i (map line_of (drop i ls)))
-    c.show-line.ensures
+    c.show_line.ensures
     (lines_more ls i _ c.loop-number-test.true c.line-item.is)
     ∙ c.loop-number.invariant
 

@@ -11,7 +11,7 @@ pub returns-in-Predicate : goal.returns-in-Predicate
 returns-in-Predicate c =
     let was = shown c.args.page.now in
     let p = c.in-Predicate.predicate in
-    then_add _ _ _ _ _ c.put-fields.ensures c.put-fields-in-Predicate.ensures
-    ∙ ap (add was) (as_fields-cons p c.as-slice.result.now)
-    ∙ ap (λ ns. add was (as_fields (p ∷ ns))) c.as-slice.ensures
+    then_add _ _ _ _ _ c.put_fields.ensures c.put_fields-in-Predicate.ensures
+    ∙ ap (add was) (as_fields-cons p c.as_slice.result.now)
+    ∙ ap (λ ns. add was (as_fields (p ∷ ns))) c.as_slice.ensures
     ∙ ap (λ l. add was (as_fields (numbers (line_of l)))) (sym c.in-Predicate.is)

@@ -15,9 +15,9 @@ returns c =
     let s = c.args.state in
     let g = graph_in c.args.case.now in
     let head = 83 ∷ as_fields (s ∷ []) in
-    then_add _ _ _ _ _ (then_add _ _ _ _ _ c.put.ensures c.put-fields.ensures)
-    (then_add _ _ _ _ _ (then_add _ _ _ _ _ c.put-2.ensures c.show-successors.ensures)
-    (then_add _ _ _ _ _ c.show-labels.ensures c.end-record.ensures))
+    then_add _ _ _ _ _ (then_add _ _ _ _ _ c.put.ensures c.put_fields.ensures)
+    (then_add _ _ _ _ _ (then_add _ _ _ _ _ c.put-2.ensures c.show_successors.ensures)
+    (then_add _ _ _ _ _ c.show_labels.ensures c.end_record.ensures))
     ∙ ap (λ es. add was (head ++
     ((44 ∷ spaced (ends es s)) ++ (label_fields (map label_of c.labels.result.now) s ++ crlf))))
     c.edges.ensures.drawn

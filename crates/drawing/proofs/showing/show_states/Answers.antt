@@ -11,7 +11,7 @@ loop-state-init c = sym (add_nothing c.args.page.now)
 
 pub loop-state-preserved : goal.loop-state-preserved
 loop-state-preserved c =
-    then_add _ _ _ _ _ c.loop-state.invariant c.show-state.ensures
+    then_add _ _ _ _ _ c.loop-state.invariant c.show_state.ensures
     ∙ ap (add (shown c.args.page.now)) (sym (states_more (graph_in c.args.case.now) c.loop-state.state))
 
 pub returns : goal.returns

@@ -19,9 +19,9 @@ loop-edge-preserved c =
     elim c.if-edge-state.branch [
       | then-edge-state w ↦
           ap (λ p. add (shown p) (separated c.if-edge-state.first rest)) w.page-is
-          ∙ ap (λ t. add (shown w.put-spaced.new.self) (separated t rest)) w.first-is
-          ∙ add_step was (shown w.put-spaced.new.self) _ (separated false rest)
-          (separated first (ends (drop i es) s)) w.put-spaced.ensures
+          ∙ ap (λ t. add (shown w.put_spaced.new.self) (separated t rest)) w.first-is
+          ∙ add_step was (shown w.put_spaced.new.self) _ (separated false rest)
+          (separated first (ends (drop i es) s)) w.put_spaced.ensures
           (ap (separated first) (ends_here es i s _ c.loop-edge-test.true w.if-edge-state.true))
           ∙ c.loop-edge.invariant
       | else-edge-state w ↦

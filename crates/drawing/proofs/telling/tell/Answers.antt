@@ -11,8 +11,8 @@ returns c =
     let at = c.args.at in
     let l = letter (layer_of c.args.fault) in
     let n = number_of c.args.fault in
-    then_add _ _ _ _ _ c.put-all.ensures
-    (then_add _ _ _ _ _ c.put.ensures (then_add _ _ _ _ _ c.put-fields.ensures c.end-record.ensures))
+    then_add _ _ _ _ _ c.put_all.ensures
+    (then_add _ _ _ _ _ c.put.ensures (then_add _ _ _ _ _ c.put_fields.ensures c.end_record.ensures))
     ∙ ap (λ x. add was (88 ∷ 44 ∷ x ∷ as_fields (c.number.result ∷ at ∷ c.field.result ∷ []) ++ crlf))
     (c.letter.ensures ∙ ap letter c.layer.ensures)
     ∙ ap (λ x. add was (88 ∷ 44 ∷ l ∷ as_fields (x ∷ at ∷ c.field.result ∷ []) ++ crlf)) c.number.ensures

@@ -4,8 +4,8 @@ use Rattle.lists.proofs.Cuts.{cut_clear}
 use Rattle.lists.proofs.Lent.{lengths_with}
 use Rattle.lists.proofs.lists.Lists.clear.Goals as goal
 
-pub invariant-of-self : goal.invariant-of-self
-invariant-of-self g c = lengths_with c.args.self.now 0 (omega (arith, c.requires.known)) (omega arith)
+pub invariant_of-self : goal.invariant_of-self
+invariant_of-self g c = lengths_with c.args.self.now 0 (omega (arith, c.requires.known)) (omega arith)
 
 pub returns : goal.returns
 unfolding table_in

@@ -7,8 +7,8 @@ use Rattle.lists.proofs.lists.Lists.copy.Goals as goal
 pub loop-i-init : goal.loop-i-init
 loop-i-init g c = copy_none _ _ _ _ _
 
-pub offset-bounds-rows-from : goal.offset-bounds-rows-from
-offset-bounds-rows-from g c =
+pub offset_bounds-rows-from : goal.offset_bounds-rows-from
+offset_bounds-rows-from g c =
     let place = same_place c.args.self.now c.args.rows.now c.requires.lent c.requires.known.0 c.args.from
     c.loop-i.i c.loop-i-test.true in
     search rules
@@ -19,14 +19,14 @@ bounds-rows-from g c =
     c.loop-i.i c.loop-i-test.true in
     omega (arith, c.loop-i.auto.rows)
 
-pub overflow-add-to : goal.overflow-add-to
-overflow-add-to g c =
+pub overflow_add-to : goal.overflow_add-to
+overflow_add-to g c =
     let place = same_place c.args.self.now c.args.rows.now c.requires.lent c.requires.known.1 c.args.from
     c.loop-i.i c.loop-i-test.true in
     search rules
 
-pub offset-bounds-rows-to : goal.offset-bounds-rows-to
-offset-bounds-rows-to g c =
+pub offset_bounds-rows-to : goal.offset_bounds-rows-to
+offset_bounds-rows-to g c =
     let place = same_place c.args.self.now c.args.rows.now c.requires.lent c.requires.known.1 c.args.from
     c.loop-i.i c.loop-i-test.true in
     search rules
@@ -46,8 +46,8 @@ loop-i-preserved g c =
     copy_more c.loop-i.invariant l.within (omega (arith, l.many)) (stretch l rows c.requires.lent c.requires.known.0)
     (omega (arith, l.many)) below (omega (arith, c.loop-i.auto.rows)) c.index-rows-from.is
 
-pub invariant-of-self : goal.invariant-of-self
-invariant-of-self g c = lengths_with c.args.self.now _ c.requires.known.1 (c.args.self.now.within c.args.from)
+pub invariant_of-self : goal.invariant_of-self
+invariant_of-self g c = lengths_with c.args.self.now _ c.requires.known.1 (c.args.self.now.within c.args.from)
 
 pub returns : goal.returns
 unfolding table_in

@@ -2,14 +2,14 @@ use Rattle.std.proofs.Common.{arith, rules}
 use Rattle.lists.proofs.Lent.{row_place, row_read}
 use Rattle.lists.proofs.lists.Lists.get.Goals as goal
 
-pub overflow-add-result : goal.overflow-add-result
-overflow-add-result g c =
+pub overflow_add-result : goal.overflow_add-result
+overflow_add-result g c =
     let l = c.args.self.now in
     let place = row_place l c.args.rows.now c.requires.lent c.requires.known c.args.i c.requires.inside in
     search rules
 
-pub offset-bounds-rows-list : goal.offset-bounds-rows-list
-offset-bounds-rows-list g c =
+pub offset_bounds-rows-list : goal.offset_bounds-rows-list
+offset_bounds-rows-list g c =
     let l = c.args.self.now in
     let place = row_place l c.args.rows.now c.requires.lent c.requires.known c.args.i c.requires.inside in
     omega arith

@@ -3,5 +3,5 @@ use Rattle.lists.specs.Counts.{list_count}
 use Rattle.lists.proofs.Cuts.{getD_zeros}
 use Rattle.lists.proofs.lists.Lists.new.Goals as goal
 
-pub invariant-of-result : goal.invariant-of-result
-invariant-of-result c = (c.requires, (refl, ((λ i. omega (arith, getD_zeros list_count i)), tt)))
+pub invariant_of-result : goal.invariant_of-result
+invariant_of-result c = (c.requires, (refl, ((λ i. omega (arith, getD_zeros list_count i)), tt)))

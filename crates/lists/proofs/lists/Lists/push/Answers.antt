@@ -4,16 +4,16 @@ use Rattle.lists.proofs.Cuts.{cut_push}
 use Rattle.lists.proofs.Lent.{end_place, length-at_table, lengths_with}
 use Rattle.lists.proofs.lists.Lists.push.Goals as goal
 
-pub offset-bounds-rows-list : goal.offset-bounds-rows-list
-offset-bounds-rows-list g c =
+pub offset_bounds-rows-list : goal.offset_bounds-rows-list
+offset_bounds-rows-list g c =
     let place = end_place c.args.self.now c.args.rows.now c.requires.lent c.requires.known c.requires.room in
     search rules
 
 pub bounds-rows-list : goal.bounds-rows-list
 bounds-rows-list g c = end_place c.args.self.now c.args.rows.now c.requires.lent c.requires.known c.requires.room
 
-pub invariant-of-self : goal.invariant-of-self
-invariant-of-self g c =
+pub invariant_of-self : goal.invariant_of-self
+invariant_of-self g c =
     let long = length-at_table c.args.self.now c.args.rows.now c.requires.lent c.requires.known in
     lengths_with c.args.self.now _ c.requires.known (omega (arith, c.requires.room, long))
 

@@ -81,13 +81,14 @@ within_set ns i n limit within small inside j =
 
 -- the length of a list may become any number up to the limit
 pub lengths_with : (l : Lists) {i : ℕ} (n : ℕ) → i < list_count → n ≤ l.limit
-    → (l.limit ≤ most_rows)
-    × ((length (set l.lengths i n) ≡ list_count)
-    × (((j : ℕ) → get_or (set l.lengths i n) j 0 ≤ l.limit) × Unit {0}))
+    → ((j : ℕ) → get_or (set l.lengths i n) j 0 ≤ l.limit)
 lengths_with l {i} n known small =
     let inside : i < length l.lengths = omega (arith, l.many) in
-    let within = within_set l.lengths i n l.limit l.within small inside in
-    (l.small, (length-set l.lengths i n ∙ l.many, (within, tt)))
+    within_set l.lengths i n l.limit l.within small inside
+
+-- and there are as many lists
+pub lengths_many : (l : Lists) (i n : ℕ) → length (set l.lengths i n) ≡ list_count
+lengths_many l i n = length-set l.lengths i n ∙ l.many
 
 -- what a call leaves of the limit
 module _ {B : Type 0} (l : Lists) (rows : List (Row B)) (l' : Lists) (rows' : List (Row B)) where

@@ -1,7 +1,7 @@
 use Rattle.std.proofs.Common.{ap, arith, rules}
 use Rattle.lists.specs.Lent.{table_in}
 use Rattle.lists.proofs.Copies.{copy_all, copy_more, copy_none}
-use Rattle.lists.proofs.Lent.{lengths_with, same_place, stretch}
+use Rattle.lists.proofs.Lent.{lengths_many, lengths_with, same_place, stretch}
 use Rattle.lists.proofs.lists.Lists.copy.Goals as goal
 
 pub loop-i-init : goal.loop-i-init
@@ -46,8 +46,11 @@ loop-i-preserved g c =
     copy_more c.loop-i.invariant l.within (omega (arith, l.many)) (stretch l rows c.requires.lent c.requires.known.0)
     (omega (arith, l.many)) below (omega (arith, c.loop-i.auto.rows)) c.index-rows-from.is
 
-pub invariant_of-self : goal.invariant_of-self
-invariant_of-self g c = lengths_with c.args.self.now _ c.requires.known.1 (c.args.self.now.within c.args.from)
+pub invariant_of-self-clause-many : goal.invariant_of-self-clause-many
+invariant_of-self-clause-many g c = lengths_many c.args.self.now _ _
+
+pub invariant_of-self-clause-within : goal.invariant_of-self-clause-within
+invariant_of-self-clause-within g c = lengths_with c.args.self.now _ c.requires.known.1 (c.args.self.now.within c.args.from)
 
 pub returns : goal.returns
 unfolding table_in

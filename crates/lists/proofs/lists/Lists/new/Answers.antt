@@ -4,4 +4,8 @@ use Rattle.lists.proofs.Cuts.{getD_zeros}
 use Rattle.lists.proofs.lists.Lists.new.Goals as goal
 
 pub invariant_of-result : goal.invariant_of-result
-invariant_of-result c = (c.requires, (refl, ((λ i. omega (arith, getD_zeros list_count i)), tt)))
+invariant_of-result c = record {
+  small = c.requires;
+  many = refl;
+  within = λ i. omega (arith, getD_zeros list_count i);
+}

@@ -1,7 +1,7 @@
 use Rattle.std.proofs.Common.{ap, arith, rules}
 use Rattle.lists.specs.Lent.{table_in}
 use Rattle.lists.proofs.Cuts.{cut_push}
-use Rattle.lists.proofs.Lent.{end_place, length-at_table, lengths_with}
+use Rattle.lists.proofs.Lent.{end_place, length-at_table, lengths_many, lengths_with}
 use Rattle.lists.proofs.lists.Lists.push.Goals as goal
 
 pub offset_bounds-rows-list : goal.offset_bounds-rows-list
@@ -12,8 +12,11 @@ offset_bounds-rows-list g c =
 pub bounds-rows-list : goal.bounds-rows-list
 bounds-rows-list g c = end_place c.args.self.now c.args.rows.now c.requires.lent c.requires.known c.requires.room
 
-pub invariant_of-self : goal.invariant_of-self
-invariant_of-self g c =
+pub invariant_of-self-clause-many : goal.invariant_of-self-clause-many
+invariant_of-self-clause-many g c = lengths_many c.args.self.now _ _
+
+pub invariant_of-self-clause-within : goal.invariant_of-self-clause-within
+invariant_of-self-clause-within g c =
     let long = length-at_table c.args.self.now c.args.rows.now c.requires.lent c.requires.known in
     lengths_with c.args.self.now _ c.requires.known (omega (arith, c.requires.room, long))
 

@@ -6,12 +6,12 @@ use Rattle.flow.specs.Tests.{every}
 use Rattle.engine.proofs.Labels.{every_map}
 use Rattle.engine.proofs.nameable.labels_nameable.Goals as goal
 
-pub returns-then-not-all-taken : goal.returns-then-not-all-taken
-returns-then-not-all-taken g c =
+pub returns-then-not-all_taken : goal.returns-then-not-all_taken
+returns-then-not-all_taken g c =
     let takes = every g.K.Kind.model.nameable in
     let label = c.label-item.result in
-    let here = ap (λ x. takes (label_of x).values) (sym c.label-item.is) ∙ ap takes (sym c.as-slice.ensures)
-    ∙ sym c.all-taken.ensures ∙ c.if-not-all-taken.true in
+    let here = ap (λ x. takes (label_of x).values) (sym c.label-item.is) ∙ ap takes (sym c.as_slice.ensures)
+    ∙ sym c.all_taken.ensures ∙ c.if-not-all_taken.true in
     sym (every_here (λ x. takes (label_of x).values) c.args.labels.now c.loop-label.label-index label
     c.loop-label-test.true here) ∙ sym c.loop-label.invariant
     ∙ every_map (λ (l : Label). takes l.values) label_of c.args.labels.now
@@ -20,8 +20,8 @@ pub loop-label-preserved : goal.loop-label-preserved
 loop-label-preserved g c =
     let takes = every g.K.Kind.model.nameable in
     let label = c.label-item.result in
-    let here = ap (λ x. takes (label_of x).values) (sym c.label-item.is) ∙ ap takes (sym c.as-slice.ensures)
-    ∙ sym c.all-taken.ensures ∙ c.if-not-all-taken.false in
+    let here = ap (λ x. takes (label_of x).values) (sym c.label-item.is) ∙ ap takes (sym c.as_slice.ensures)
+    ∙ sym c.all_taken.ensures ∙ c.if-not-all_taken.false in
     c.loop-label.invariant ∙ every_more (λ x. takes (label_of x).values) c.args.labels.now
     c.loop-label.label-index label c.loop-label-test.true here
 

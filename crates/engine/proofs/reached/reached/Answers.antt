@@ -7,8 +7,8 @@ use Rattle.engine.proofs.Marking.{mark_asked, marks_more, marks_pass, operands_s
 use Rattle.engine.proofs.reached.reached.Goals as goal
 use Rattle.engine.specs.Marks.{marked}
 
-pub mark-named-requires : goal.mark-named-requires
-mark-named-requires c =
+pub mark_named-requires : goal.mark_named-requires
+mark_named-requires c =
     let ls = c.args.lines.now in
     let few = c.requires.few in
     let known = c.requires.known in
@@ -34,9 +34,9 @@ loop-i-preserved-then-marks-i c =
     let known = c.requires.known in
     let i = c.loop-i.i - 1 in
     let one : suc i ≡ c.loop-i.i = omega arith in
-    let named = c.mark-named.ensures ∙ ap (λ l. marking true (operands l) (marked c.loop-i.marks))
+    let named = c.mark_named.ensures ∙ ap (λ l. marking true (operands l) (marked c.loop-i.marks))
     (read_line lines i c.index-lines-i.result (omega arith) c.index-lines-i.is) in
-    marks_more ls c.requires.ordered c.loop-i.marks c.mark-named.new.marks i c.if-marks-i.true named
+    marks_more ls c.requires.ordered c.loop-i.marks c.mark_named.new.marks i c.if-marks-i.true named
     ∙ ap (λ n. marked_below ls n (marked c.loop-i.marks)) one ∙ c.loop-i.invariant
 
 pub loop-i-preserved : goal.loop-i-preserved

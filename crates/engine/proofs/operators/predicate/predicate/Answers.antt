@@ -10,21 +10,21 @@ use Rattle.std.proofs.lemmas.List.FromFn.{length-range_with_len}
 pub loop-state-init : goal.loop-state-init
 loop-state-init g c = loop_none
 
-pub returns-in-err-state-labels : goal.returns-in-err-state-labels
+pub returns-in_err-state_labels : goal.returns-in_err-state_labels
 unfolding labelled
-returns-in-err-state-labels g c =
+returns-in_err-state_labels g c =
     let n = (graph_in c.args.case.now).states in
     let below : c.loop-state.state < n = omega (arith, c.states-state-end.ensures) in
-    stopped c.from-residual.result _ c.from-residual.ensures.1
+    stopped c.from_residual.result _ c.from_residual.ensures.1
     (loop_stop c.loop-state.invariant (omega (arith, length-range_with_len 0 n)) (counted n _ below) refl c.requires.known
-    c.in-err-state-labels.ensures)
+    c.in_err-state_labels.ensures)
 
 pub loop-state-preserved : goal.loop-state-preserved
 loop-state-preserved g c =
     let n = (graph_in c.args.case.now).states in
     let below : c.loop-state.state < n = omega (arith, c.states-state-end.ensures) in
     loop_more c.loop-state.invariant (omega (arith, length-range_with_len 0 n)) (counted n _ below) refl c.requires.known
-    c.in-ok-state-labels.ensures
+    c.in_ok-state_labels.ensures
 
 pub returns : goal.returns
 unfolding labelled

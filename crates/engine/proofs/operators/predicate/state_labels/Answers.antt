@@ -12,25 +12,25 @@ use Rattle.engine.proofs.operators.predicate.state_labels.Goals.{
   else-label-state,
   else-label-state-via-else-label-state,
   else-label-state-via-then-label-state+else-label-predicate,
-  then-label-state+then-label-predicate+in-Some+in-ok-add,
-  then-label-state+then-label-predicate+in-default,
+  then-label-state+then-label-predicate+in-Some+in_ok-add,
+  then-label-state+then-label-predicate+in_default,
 }
 
 pub loop-label-init : goal.loop-label-init
 loop-label-init g c = loop_none
 
-pub returns-in-err-add : goal.returns-in-err-add
-returns-in-err-add g c =
+pub returns-in_err-add : goal.returns-in_err-add
+returns-in_err-add g c =
     let m = g.K.Kind.model in
     let gives = of_label m (graph_in c.args.case.now) c.args.predicate c.args.variables.now
     c.args.state in
     let row = of_label_here m (graph_in c.args.case.now) c.args.predicate c.args.variables.now
     c.args.state (label_of c.label-item.result) c.if-label-state.true
-    c.if-label-predicate.true c.blank-blank.ensures c.as-slice.ensures c.in-Some.ensures in
+    c.if-label-predicate.true c.blank-blank.ensures c.as_slice.ensures c.in-Some.ensures in
     let all = joined_map gives label_of _ c.labels-label-items.ensures.entered in
-    stopped c.from-residual.result _ c.from-residual.ensures.1
+    stopped c.from_residual.result _ c.from_residual.ensures.1
     (loop_stop c.loop-label.invariant c.loop-label-test.true c.label-item.is row c.requires.known
-    c.in-err-add.ensures
+    c.in_err-add.ensures
     ∙ ap (adding m (table_in c.args.lists.now c.args.rows.now) c.args.dest) all)
 
 pub loop-label-preserved : goal.loop-label-preserved
@@ -44,14 +44,14 @@ loop-label-preserved g c =
     let loop = c.loop-label.invariant in
     let below = c.loop-label-test.true in
     elim c.if-label-state.branch [
-      | then-label-state+then-label-predicate+in-Some+in-ok-add w ↦
+      | then-label-state+then-label-predicate+in-Some+in_ok-add w ↦
           let row = of_label_here m graph p xs s label w.if-label-state.true w.if-label-predicate.true
-          c.blank-blank.ensures w.as-slice.ensures w.in-Some.ensures in
+          c.blank-blank.ensures w.as_slice.ensures w.in-Some.ensures in
           rw (w.lists-is, w.rows-is)
-          (loop_more loop below c.label-item.is row c.requires.known w.in-ok-add.ensures)
-      | then-label-state+then-label-predicate+in-default w ↦
+          (loop_more loop below c.label-item.is row c.requires.known w.in_ok-add.ensures)
+      | then-label-state+then-label-predicate+in_default w ↦
           let none = of_label_here m graph p xs s label w.if-label-state.true w.if-label-predicate.true
-          c.blank-blank.ensures w.as-slice.ensures w.in-default.ensures in
+          c.blank-blank.ensures w.as_slice.ensures w.in_default.ensures in
           rw (w.lists-is, w.rows-is) (loop_skip loop below c.label-item.is none)
       | else-label-state w ↦
           let none : of_label m graph p xs s label ≡ []

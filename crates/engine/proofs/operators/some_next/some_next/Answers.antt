@@ -12,8 +12,8 @@ use Rattle.std.proofs.lemmas.List.FromFn.{length-range_with_len}
 pub loop-state-init : goal.loop-state-init
 loop-state-init g c = loop_none
 
-pub returns-in-err-state-successors : goal.returns-in-err-state-successors
-returns-in-err-state-successors g c =
+pub returns-in_err-state_successors : goal.returns-in_err-state_successors
+returns-in_err-state_successors g c =
     let model = g.K.Kind.model in
     let graph = graph_in c.args.case.now in
     let table = table_in c.args.lists.now c.args.rows.now in
@@ -24,8 +24,8 @@ returns-in-err-state-successors g c =
     let read = counted graph.states state (omega arith) in
     let gives = ap (λ rows. led_to model graph rows state) (sym (loop_other loop c.requires.apart)) in
     let all = stepped_joined model graph (at table c.args.list) in
-    stopped c.from-residual.result _ c.from-residual.ensures.1
-    (loop_stop loop (omega arith) read gives c.requires.known.1 c.in-err-state-successors.ensures
+    stopped c.from_residual.result _ c.from_residual.ensures.1
+    (loop_stop loop (omega arith) read gives c.requires.known.1 c.in_err-state_successors.ensures
     ∙ ap (adding model table c.args.dest) (sym all))
 
 pub loop-state-preserved : goal.loop-state-preserved
@@ -37,7 +37,7 @@ loop-state-preserved g c =
     let state = c.loop-state.state in
     let read = counted graph.states state (omega arith) in
     let gives = ap (λ rows. led_to g.K.Kind.model graph rows state) (sym (loop_other loop c.requires.apart)) in
-    loop_more loop (omega arith) read gives c.requires.known.1 c.in-ok-state-successors.ensures
+    loop_more loop (omega arith) read gives c.requires.known.1 c.in_ok-state_successors.ensures
 
 pub returns : goal.returns
 returns g c =

@@ -8,13 +8,13 @@ use Rattle.logic.specs.Operators.{moved}
 use Rattle.engine.proofs.Stepped.{along_all, along_here, along_not, edge_at, edge_read}
 use Rattle.engine.proofs.operators.some_next.state_successors.Goals as goal
 use Rattle.engine.proofs.operators.some_next.state_successors.Goals.{else-edge-state}
-use Rattle.engine.proofs.operators.some_next.state_successors.Goals.{then-edge-state+in-ok-add-moved}
+use Rattle.engine.proofs.operators.some_next.state_successors.Goals.{then-edge-state+in_ok-add_moved}
 
 pub loop-edge-init : goal.loop-edge-init
 loop-edge-init g c = loop_none
 
-pub returns-in-err-add-moved : goal.returns-in-err-add-moved
-returns-in-err-add-moved g c =
+pub returns-in_err-add_moved : goal.returns-in_err-add_moved
+returns-in_err-add_moved g c =
     let model = g.K.Kind.model in
     let table = table_in c.args.lists.now c.args.rows.now in
     let state = c.args.state in
@@ -26,8 +26,8 @@ returns-in-err-add-moved g c =
     let gives = along_here there state edge c.if-edge-state.true
     ∙ ap (moved model state edge.to) (sym (loop_other loop c.requires.apart)) in
     let all = along_all there state (graph_in c.args.case.now) c.edges-edge-items.ensures.drawn in
-    stopped c.from-residual.result _ c.from-residual.ensures.1
-    (loop_stop loop (omega arith) read gives c.requires.known.1 c.in-err-add-moved.ensures
+    stopped c.from_residual.result _ c.from_residual.ensures.1
+    (loop_stop loop (omega arith) read gives c.requires.known.1 c.in_err-add_moved.ensures
     ∙ ap (adding model table c.args.dest) all)
 
 pub loop-edge-preserved : goal.loop-edge-preserved
@@ -41,11 +41,11 @@ loop-edge-preserved g c =
     let loop = c.loop-edge.invariant in
     let read = edge_read es c.loop-edge.edge-index c.loop-edge-test.true in
     elim c.if-edge-state.branch [
-      | then-edge-state+in-ok-add-moved w ↦
+      | then-edge-state+in_ok-add_moved w ↦
           let gives = along_here there state edge w.if-edge-state.true
           ∙ ap (moved model state edge.to) (sym (loop_other loop c.requires.apart)) in
           rw (w.lists-is, w.rows-is)
-          (loop_more loop (omega arith) read gives c.requires.known.1 w.in-ok-add-moved.ensures)
+          (loop_more loop (omega arith) read gives c.requires.known.1 w.in_ok-add_moved.ensures)
       | else-edge-state w ↦
           let none = along_not there state edge w.if-edge-state.false in
           rw (w.lists-is, w.rows-is) (loop_skip loop (omega arith) read none)

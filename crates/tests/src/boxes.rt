@@ -5,15 +5,20 @@ use kinds::fragments::Fragments;
 use kinds::kind::Kind;
 use kinds::printing::PrintingKind;
 use pages::page::Page;
+use std::process::Abort;
 use std::test::*;
 
 // Whether the box prints so.
-fn prints<K: PrintingKind>(rt: &HostRuntime, b: &K::Box, text: &[u8]) -> Result<(), Fail> {
+fn prints<K: PrintingKind>(
+    rt: &(impl Abort + AllocGlobal),
+    b: &K::Box,
+    text: &[u8],
+) -> Result<(), Fail> {
     let mut page = Page::new(rt.alloc())?;
     K::print(b, &mut page);
     match page.text() {
         Some(bytes) => {
-            assert!(bytes == text);
+            assert!(rt; bytes == text);
             Ok(())
         },
         None => Err(Fail::new("too long")),
@@ -21,7 +26,11 @@ fn prints<K: PrintingKind>(rt: &HostRuntime, b: &K::Box, text: &[u8]) -> Result<
 }
 
 // Whether the box is there and prints so.
-fn gives<K: PrintingKind>(rt: &HostRuntime, b: Option<K::Box>, text: &[u8]) -> Result<(), Fail> {
+fn gives<K: PrintingKind>(
+    rt: &(impl Abort + AllocGlobal),
+    b: Option<K::Box>,
+    text: &[u8],
+) -> Result<(), Fail> {
     match b {
         Some(b) => prints::<K>(rt, &b, text),
         None => Err(Fail::new("no box")),

@@ -8,6 +8,6 @@ mod limits;
 #[cfg(test)]
 mod refusals;
 #[cfg(test)]
-mod rows;
+mod rows_and_forests;
 #[cfg(test)]
 mod texts;

@@ -3,6 +3,7 @@ use flow::case::Case;
 use flow::draft::Draft;
 use flow::refusal::Refusal;
 use flow::room::Room;
+use std::process::Abort;
 use std::test::*;
 
 // The number of a refusal, or 0.
@@ -14,30 +15,30 @@ fn refused<T: Drop>(r: Result<T, Refusal>) -> u32 {
 }
 
 // A draft with so many states.
-fn with_states(rt: &HostRuntime, states: u32) -> Result<Draft, Fail> {
+fn with_states(rt: &(impl Abort + AllocGlobal), states: u32) -> Result<Draft, Fail> {
     let mut draft = Draft::begin(Room::new(rt.alloc())?);
     for _ in 0..states {
-        assert_eq!(refused(draft.state()), 0);
+        assert_eq!(rt; refused(draft.state()), 0);
     }
     Ok(draft)
 }
 
 // A draft of 256 states with so many edges: each leads one or two states on.
-fn with_edges(rt: &HostRuntime, edges: u32) -> Result<Draft, Fail> {
+fn with_edges(rt: &(impl Abort + AllocGlobal), edges: u32) -> Result<Draft, Fail> {
     let mut draft = with_states(rt, 256)?;
     for i in 0..edges {
         let from = i % 256;
-        assert_eq!(refused(draft.edge(from, (from + 1 + i / 256) % 256)), 0);
+        assert_eq!(rt; refused(draft.edge(from, (from + 1 + i / 256) % 256)), 0);
     }
     Ok(draft)
 }
 
 // A closed case with so many lines.
-fn with_lines(rt: &HostRuntime, lines: u32) -> Result<Case, Fail> {
+fn with_lines(rt: &(impl Abort + AllocGlobal), lines: u32) -> Result<Case, Fail> {
     let mut case = with_states(rt, 1)?.close();
     for i in 0..lines {
         let r = case.line('P', &[i]);
-        assert!(r == Ok(i));
+        assert!(rt; r == Ok(i));
     }
     Ok(case)
 }

@@ -2,15 +2,16 @@
 use drawing::drawing::draw;
 use flow::room::Room;
 use pages::page::Page;
+use std::process::Abort;
 use std::test::*;
 
 // Whether the input is drawn so.
-fn draws(rt: &HostRuntime, input: &[u8], output: &[u8]) -> Result<(), Fail> {
+fn draws(rt: &(impl Abort + AllocGlobal), input: &[u8], output: &[u8]) -> Result<(), Fail> {
     let mut page = Page::new(rt.alloc())?;
     draw(Room::new(rt.alloc())?, &mut page, input);
     match page.text() {
         Some(bytes) => {
-            assert!(bytes == output);
+            assert!(rt; bytes == output);
             Ok(())
         },
         None => Err(Fail::new("too long")),
@@ -31,7 +32,7 @@ fn records(rt: HostRuntime) -> Result<(), Fail> {
 }
 
 // Whether each of the inputs is drawn so.
-fn all_draw(rt: &HostRuntime, inputs: &[&[u8]], output: &[u8]) -> Result<(), Fail> {
+fn all_draw(rt: &(impl Abort + AllocGlobal), inputs: &[&[u8]], output: &[u8]) -> Result<(), Fail> {
     for input in inputs {
         draws(rt, input, output)?;
     }

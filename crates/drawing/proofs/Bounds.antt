@@ -1,5 +1,5 @@
 -- What is printed of a text, kept within the limit.
-use Rattle.std.proofs.Common.{◌≡◌, ℕ, ◌<◌, ◌≤◌, true, false, cond, leb, List, [], ◌++◌, length, is_some, Some, None, Option, sym, refl, ap, ◌∙◌, inl, inr, arith}
+use Rattle.std.proofs.Common.{◌≡◌, ℕ, ◌<◌, ◌≤◌, true, false, List, [], length, is_some, Some, None, Option, sym, refl, ap, ◌∙◌, inl, inr, arith}
 use Rattle.drawing.specs.Output.{drawing, notice, output, within}
 use Rattle.pages.proofs.Adding.{add_full, add_room}
 use Rattle.pages.specs.Limit.{limit}

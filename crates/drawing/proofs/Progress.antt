@@ -1,12 +1,11 @@
 -- A walk through the records of a phase: what is left comes to the same as all of it did at the start.
-use Rattle.std.proofs.Common.{◌≡◌, ℕ, ◌+◌, ◌<◌, ◌≤◌, List, [], ◌∷◌, ◌++◌, length, drop, Some, None, Ok, Err, Option, Result, sym, refl, ap, ◌∙◌, zero-le, add-zero, zero-add, arith}
+use Rattle.std.proofs.Common.{◌≡◌, ℕ, ◌+◌, ◌≤◌, List, [], ◌∷◌, length, drop, Some, None, Ok, Err, Option, Result, sym, refl, ap, ◌∙◌, zero-le, add-zero, zero-add, arith}
 use Rattle.drawing.specs.Followed.{Followed}
 use Rattle.drawing.specs.Following.{Standing, and_check, and_refused, checks, final, if_closes, later, next, refused, reply}
 use Rattle.drawing.specs.Refused.{refused_text, told}
 use Rattle.drawing.specs.declared.fault.Fault.{Fault}
 use Rattle.drawing.specs.declared.step.Step.{Step}
 use Rattle.drawing.specs.declared.step.Step.TheVariants.{Checks, Closes, Goes}
-use Rattle.drawing.specs.declared.tally.Tally.{Tally}
 use Rattle.pages.proofs.Adding.{add_nothing, add_step}
 use Rattle.pages.specs.Limit.{limit}
 use Rattle.pages.specs.Pages.{add, shown}

@@ -1,12 +1,12 @@
 -- What is left to print, one step on.
-use Rattle.std.proofs.Common.{◌≡◌, ℕ, ◌+◌, ◌<◌, ◌≤◌, Bool, true, false, cond, eqb, List, [], ◌∷◌, ◌++◌, map, length, get_or, drop, sym, refl, ap, ◌∙◌, add-one}
+use Rattle.std.proofs.Common.{◌≡◌, ℕ, ◌+◌, ◌<◌, List, ◌∷◌, ◌++◌, map, length, get_or, drop, sym, ap, ◌∙◌, add-one}
 use Rattle.drawing.specs.Shown.{label_fields, line_text, lines_text, state_text, states_text}
 use Rattle.flow.specs.Graph.{Graph}
 use Rattle.flow.specs.Held.{label_of, line_of, listed}
 use Rattle.flow.specs.declared.label.Label.{Label}
 use Rattle.flow.specs.declared.line.Line.{Line}
 use Rattle.pages.specs.Spaced.{spaced}
-use Rattle.std.proofs.lemmas.List.{drop_all, drop_more}
+use Rattle.std.proofs.lemmas.List.{drop_more}
 use Rattle.std.proofs.lemmas.Bool.{cond-false, cond-true, eq-eqb, ne_eqb}
 
 -- the labels of s among those in the table, as fields

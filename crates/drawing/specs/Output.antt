@@ -1,5 +1,5 @@
 -- The bytes that are printed, as a function of the bytes that are read.
-use Rattle.std.specs.Prelude.{ℕ, ◌+◌, ◌-◌, cond, List, [], ◌∷◌, ◌++◌, length, codes, nat_le}
+use Rattle.std.specs.Prelude.{ℕ, ◌-◌, cond, List, [], ◌∷◌, ◌++◌, length, codes, nat_le}
 use Rattle.drawing.specs.Calls.{builds, line_calls}
 use Rattle.drawing.specs.Following.{Standing, checks, closed_case, drafting, later, refused}
 use Rattle.drawing.specs.Refused.{Refused, told}

@@ -1,5 +1,5 @@
 -- A case as records.
-use Rattle.std.specs.Prelude.{ℕ, zero, suc, ◌+◌, cond, List, [], ◌∷◌, ◌++◌, codes, decimal, ◌==◌}
+use Rattle.std.specs.Prelude.{ℕ, zero, suc, ◌+◌, cond, List, [], ◌∷◌, ◌++◌, codes, ◌==◌}
 use Rattle.flow.specs.Graph.{Graph, Label, successors}
 use Rattle.flow.specs.Line.{Line, numbers, operator}
 use Rattle.flow.specs.Operators.{character}

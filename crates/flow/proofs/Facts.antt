@@ -1,11 +1,11 @@
 -- Sound graphs and sheets have the facts; so have all that lists of calls draw and enter.
-use Rattle.std.proofs.Common.{◌≡◌, ℕ, zero, suc, ◌+◌, ◌<◌, ◌≤◌, Bool, true, false, ◌&&◌, ◌||◌, eqb, ltb, leb, List, [], ◌∷◌, ◌++◌, length, get_or, Some, None, Ok, Err, Option, Result, sym, refl, ap, ◌∙◌, inl, inr, not-suc-le-zero, add-zero, zero-add, arith}
+use Rattle.std.proofs.Common.{◌≡◌, ℕ, zero, suc, ◌+◌, ◌<◌, Bool, true, false, ◌&&◌, ◌||◌, eqb, ltb, leb, List, [], ◌∷◌, length, get_or, Some, None, Ok, Err, Option, Result, sym, refl, ap, ◌∙◌, inl, inr, not-suc-le-zero, add-zero, zero-add, arith}
 use Rattle.flow.specs.Build.{Build}
 use Rattle.flow.specs.Closed.{closed, leaves}
 use Rattle.flow.specs.Drawn.{after, drawn, drawn_on, refusal}
 use Rattle.flow.specs.Facts.{ClosedGraph, Ordered, Proper}
-use Rattle.flow.specs.Graph.{Graph, Label, ends, nothing_drawn, successors}
-use Rattle.flow.specs.Limits.{most_arguments, most_states, predicates}
+use Rattle.flow.specs.Graph.{Graph, Label, ends, nothing_drawn}
+use Rattle.flow.specs.Limits.{most_states}
 use Rattle.flow.specs.Line.{Line}
 use Rattle.flow.specs.Sheet.{entered, entered_on, entry, right, sheet}
 use Rattle.flow.specs.Sound.{bounded, each_below, inside, joined_up, leading, proper, right_from, sound, sound_closed, sound_sheet}

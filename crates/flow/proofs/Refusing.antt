@@ -1,5 +1,5 @@
 -- Which refusal a call on a draft meets: the definition is opened here and nowhere else.
-use Rattle.std.proofs.Common.{◌≡◌, ℕ, ◌<◌, ◌≤◌, true, false, cond, ◌||◌, ◌⊎◌, List, length, Some, None, Ok, Err, sym, refl, ap, inl, inr, arith}
+use Rattle.std.proofs.Common.{◌≡◌, ℕ, ◌<◌, ◌≤◌, true, false, ◌⊎◌, List, length, Some, None, Ok, Err, sym, ap, arith}
 use Rattle.flow.specs.Build.{Build, edge, label, state}
 use Rattle.flow.specs.Drawn.{added, after, answer, is_edge, is_label, refusal}
 use Rattle.flow.specs.Graph.{Graph}

@@ -1,5 +1,5 @@
 -- Sound graphs stay sound.
-use Rattle.std.proofs.Common.{◌≡◌, ℕ, ◌+◌, ◌<◌, ◌≤◌, Bool, true, false, ◌&&◌, List, [], ◌∷◌, ◌++◌, length, None, sym, refl, ap, ◌∙◌, arith}
+use Rattle.std.proofs.Common.{◌≡◌, ℕ, ◌+◌, ◌≤◌, Bool, true, List, [], ◌∷◌, ◌++◌, length, None, refl, arith}
 use Rattle.flow.specs.Build.{Build, edge, label, state}
 use Rattle.flow.specs.Drawn.{added, refusal}
 use Rattle.flow.specs.Graph.{Graph, Label}

@@ -1,5 +1,5 @@
 -- A walk through the edges for the successors of a state.
-use Rattle.std.proofs.Common.{◌≡◌, ℕ, zero, suc, ◌+◌, ◌-◌, ◌<◌, List, [], ◌∷◌, length, get_or, drop, ap, ◌∙◌, not-suc-le-zero, arith}
+use Rattle.std.proofs.Common.{◌≡◌, ℕ, zero, suc, ◌+◌, ◌-◌, ◌<◌, List, ◌∷◌, length, get_or, drop, ap, ◌∙◌, not-suc-le-zero, arith}
 use Rattle.flow.specs.Graph.{ends}
 use Rattle.flow.specs.declared.edge.Edge.{Edge}
 use Rattle.std.proofs.lemmas.List.{drop_more}

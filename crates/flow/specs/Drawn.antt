@@ -1,5 +1,5 @@
 -- Drawing: what each call on a draft is refused for, what it adds, and the graph that a list of calls draws.
-use Rattle.std.specs.Prelude.{ℕ, ◌+◌, Bool, cond, ◌&&◌, ◌||◌, List, [], ◌∷◌, ◌++◌, length, Option, Result, ◌==◌, nat_le}
+use Rattle.std.specs.Prelude.{ℕ, ◌+◌, Bool, ◌&&◌, ◌||◌, List, [], ◌∷◌, ◌++◌, length, Option, Result, ◌==◌, nat_le}
 use Rattle.flow.specs.Build.{Build, edge, label, state}
 use Rattle.flow.specs.Graph.{Graph, Label, nothing_drawn}
 use Rattle.flow.specs.Limits.{most_arguments, most_edges, most_labels, most_states, predicates}

@@ -1,5 +1,5 @@
 -- The memory of a case.
-use Rattle.std.specs.Prelude.{◌≡◌, ◌≤◌, vec_capacity}
+use Rattle.std.specs.Prelude.{◌≤◌, vec_capacity}
 use Rattle.flow.specs.Limits.{most_closed_edges, most_labels, most_lines}
 use Rattle.flow.specs.declared.room.Room.{Room}
 

@@ -1,7 +1,7 @@
 -- The table that lent rows stand for: its limit, its lists and where their rows lie.
 use Rattle.std.proofs.Common.{◌≡◌, ℕ, suc, ◌+◌, ◌*◌, ◌<◌, ◌≤◌, List, length, get_or, set, replicate, Ok, sym, refl, ap, ◌∙◌, ⊎_elim, mul-le-mul_right, suc-mul, arith}
 use Rattle.kinds.specs.Model.{Model}
-use Rattle.lists.specs.Counts.{list_count, most_rows}
+use Rattle.lists.specs.Counts.{list_count}
 use Rattle.lists.specs.Lent.{Lent, cut, table_in}
 use Rattle.lists.specs.Tables.{Table, adding, at, no_rows, with_list}
 use Rattle.lists.specs.declared.lists.Lists.{Lists}

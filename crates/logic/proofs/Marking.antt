@@ -1,9 +1,8 @@
 -- Only lines that the asked line reaches are marked.
-use Rattle.std.proofs.Common.{◌≡◌, ℕ, zero, suc, Bool, true, false, ◌||◌, eqb, ◌⊎◌, ◌↔◌, List, sym, refl, subst, inl, inr}
+use Rattle.std.proofs.Common.{◌≡◌, ℕ, zero, suc, Bool, true, false, eqb, List, sym, refl, subst, inl, inr}
 use Rattle.flow.specs.Facts.{Ordered}
 use Rattle.flow.specs.Line.{Line}
 use Rattle.flow.specs.Tests.{any}
-use Rattle.kinds.specs.Member.{◌∈◌}
 use Rattle.logic.specs.Promises.{ReachedLinesAreMarked}
 use Rattle.logic.specs.Reached.{Reaches, itself, line_at, marked_below, marking, named, operands, reached}
 use Rattle.logic.proofs.Members.{from_any}

@@ -3,7 +3,7 @@ use Rattle.std.proofs.Common.{◌≡◌, ℕ, suc, ◌+◌, ◌<◌, ◌≤◌, 
 use native.Mathlib.Decide.{ℕ_discrete}
 use Rattle.flow.specs.Facts.{Ordered}
 use Rattle.flow.specs.Graph.{Graph}
-use Rattle.flow.specs.Line.{Line, predicate}
+use Rattle.flow.specs.Line.{Line}
 use Rattle.kinds.specs.Consequences.{Consequences}
 use Rattle.kinds.specs.Model.{Model}
 use Rattle.rows.specs.declared.row.Row.{Row}

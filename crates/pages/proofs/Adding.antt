@@ -1,5 +1,5 @@
 -- Bytes added to what a page shows, one lot after the other.
-use Rattle.std.proofs.Common.{◌≡◌, ℕ, ◌+◌, ◌≤◌, true, false, cond, leb, List, [], ◌∷◌, ◌++◌, length, Some, None, vec_items, Option, sym, refl, ap, ◌∙◌, inl, inr, append_assoc, append-nil, arith, length-append}
+use Rattle.std.proofs.Common.{◌≡◌, ℕ, ◌+◌, ◌≤◌, true, false, cond, leb, List, [], ◌++◌, length, Some, None, vec_items, Option, sym, refl, ap, ◌∙◌, inl, inr, append_assoc, append-nil, arith, length-append}
 use Rattle.pages.specs.Limit.{limit}
 use Rattle.pages.specs.Pages.{add, shown}
 use Rattle.pages.specs.declared.page.Page.{Page}

@@ -1,5 +1,5 @@
 -- A page that is given one byte more.
-use Rattle.std.proofs.Common.{◌≡◌, ℕ, ◌<◌, ◌≤◌, Bool, true, false, cond, List, [], ◌∷◌, ◌++◌, Some, None, vec_items, vec_len, sym, refl, ap, ◌∙◌, arith}
+use Rattle.std.proofs.Common.{◌≡◌, ℕ, ◌<◌, ◌≤◌, true, false, cond, [], ◌∷◌, ◌++◌, Some, None, vec_items, vec_len, sym, refl, arith}
 use Rattle.pages.specs.Limit.{limit}
 use Rattle.pages.specs.Pages.{add, shown}
 use Rattle.pages.specs.declared.page.Page.{Page}

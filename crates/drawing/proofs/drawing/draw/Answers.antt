@@ -1,8 +1,8 @@
-use Rattle.std.proofs.Common.{◌≡◌, is_some, Some, sym, ap, ◌∙◌, arith}
+use Rattle.std.proofs.Common.{is_some, Some, sym, ap, ◌∙◌}
 use Rattle.drawing.specs.Output.{drawing}
 use Rattle.drawing.proofs.Bounds.{all_of_it, only_notice, output_long, output_short, some_mapped}
 use Rattle.drawing.proofs.drawing.draw.Goals as goal
-use Rattle.pages.specs.Pages.{add, shown}
+use Rattle.pages.specs.Pages.{add}
 use Rattle.records.specs.Texts.{records}
 
 pub returns-then-input-gt-LIMIT : goal.returns-then-input-gt-LIMIT

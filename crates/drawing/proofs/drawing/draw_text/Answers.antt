@@ -1,4 +1,4 @@
-use Rattle.std.proofs.Common.{◌≡◌, ◌+◌, [], length, sym, refl, ap, ◌∙◌, arith}
+use Rattle.std.proofs.Common.{◌+◌, length, refl, ap, ◌∙◌, arith}
 use Rattle.drawing.specs.Following.{closed_case, drafting}
 use Rattle.drawing.specs.Output.{done_text}
 use Rattle.drawing.proofs.Whole.{begins_at, drawn_first, whole}

@@ -1,4 +1,4 @@
-use Rattle.std.proofs.Common.{◌+◌, false, ◌∷◌, ◌++◌, drop, decimal, sym, refl, ap, ◌∙◌}
+use Rattle.std.proofs.Common.{◌+◌, false, ◌∷◌, ◌++◌, drop, decimal, refl, ap, ◌∙◌}
 use Rattle.drawing.proofs.showing.show_label.Goals as goal
 use Rattle.pages.proofs.Adding.{add_done, add_step, then_add}
 use Rattle.pages.specs.Pages.{add, shown}

@@ -1,4 +1,4 @@
-use Rattle.std.proofs.Common.{[], ◌∷◌, ◌++◌, sym, ap, ◌∙◌}
+use Rattle.std.proofs.Common.{[], ◌∷◌, ◌++◌, ap, ◌∙◌}
 use Rattle.drawing.proofs.showing.show_line.Goals as goal
 use Rattle.flow.specs.Held.{line_of}
 use Rattle.flow.specs.Line.{numbers}

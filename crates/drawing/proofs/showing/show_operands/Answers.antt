@@ -1,4 +1,4 @@
-use Rattle.std.proofs.Common.{◌∷◌, ◌++◌, sym, ap, ◌∙◌}
+use Rattle.std.proofs.Common.{◌∷◌, sym, ap, ◌∙◌}
 use Rattle.drawing.proofs.Printing.{as_fields-cons}
 use Rattle.drawing.proofs.showing.show_operands.Goals as goal
 use Rattle.flow.specs.Held.{line_of}

@@ -1,4 +1,4 @@
-use Rattle.std.proofs.Common.{◌≡◌, [], sym, ap, ◌∙◌, arith}
+use Rattle.std.proofs.Common.{◌≡◌, sym, ap, ◌∙◌, arith}
 use Rattle.drawing.specs.Shown.{states_text}
 use Rattle.drawing.proofs.Steps.{states_more}
 use Rattle.drawing.proofs.showing.show_states.Goals as goal

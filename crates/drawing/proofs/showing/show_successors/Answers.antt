@@ -1,4 +1,4 @@
-use Rattle.std.proofs.Common.{◌+◌, false, ◌∷◌, drop, sym, ap, ◌∙◌}
+use Rattle.std.proofs.Common.{◌+◌, false, drop, sym, ap, ◌∙◌}
 use Rattle.drawing.proofs.showing.show_successors.Goals as goal
 use Rattle.drawing.proofs.showing.show_successors.Goals.{else-edge-state, then-edge-state}
 use Rattle.flow.proofs.Successors.{ends_here, ends_past}

@@ -1,4 +1,4 @@
-use Rattle.std.proofs.Common.{◌≡◌, [], ◌∷◌, ◌++◌, sym, ap, ◌∙◌}
+use Rattle.std.proofs.Common.{[], ◌∷◌, ◌++◌, ap, ◌∙◌}
 use Rattle.drawing.specs.Faults.{layer_of, letter, number_of}
 use Rattle.drawing.proofs.telling.tell.Goals as goal
 use Rattle.pages.proofs.Adding.{then_add}

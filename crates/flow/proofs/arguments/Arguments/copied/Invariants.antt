@@ -1,4 +1,4 @@
-use Rattle.std.proofs.Common.{◌≡◌, ◌≤◌, length, take}
+use Rattle.std.proofs.Common.{◌≡◌, length, take}
 use Rattle.flow.specs.Limits.{most_arguments}
 use Rattle.flow.proofs.arguments.Arguments.copied.Given as goal
 

@@ -1,6 +1,6 @@
 use Rattle.std.proofs.Common.{◌≡◌, length, sym, ap, ◌∙◌, arith}
 use Rattle.flow.specs.Cases.{lines_in}
-use Rattle.flow.specs.Held.{asked_of, line_of}
+use Rattle.flow.specs.Held.{line_of}
 use Rattle.flow.specs.Sheet.{right}
 use Rattle.flow.proofs.Entering.{entry_fine, entry_full, entry_misfit, entry_refused, length-lines}
 use Rattle.flow.proofs.case.Case.entry.Goals as goal

@@ -1,7 +1,7 @@
-use Rattle.std.proofs.Common.{◌≡◌, [], ◌∷◌, ◌++◌, map, length, Ok, vec_items, sym, refl, ap, ◌∙◌, arith}
+use Rattle.std.proofs.Common.{map, length, Ok, vec_items, sym, refl, ap, ◌∙◌, arith}
 use Rattle.flow.specs.Cases.{graph_in, lines_in}
 use Rattle.flow.specs.Held.{line_of}
-use Rattle.flow.specs.Sheet.{entered, entry, numbered}
+use Rattle.flow.specs.Sheet.{entered, numbered}
 use Rattle.flow.specs.Sound.{sound_sheet}
 use Rattle.flow.proofs.Entering.{entry-right, length-lines, sound_push}
 use Rattle.flow.proofs.case.Case.line.Goals as goal

@@ -1,4 +1,4 @@
-use Rattle.std.proofs.Common.{◌+◌, [], drop, sym, refl, ap, ◌∙◌, arith}
+use Rattle.std.proofs.Common.{◌+◌, drop, sym, refl, ap, ◌∙◌, arith}
 use Rattle.flow.specs.Graph.{ends}
 use Rattle.flow.proofs.Successors.{ends_here, ends_past, nth_later}
 use Rattle.flow.proofs.case.Case.successor.Goals as goal

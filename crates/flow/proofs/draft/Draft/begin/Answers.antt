@@ -1,6 +1,5 @@
-use Rattle.std.proofs.Common.{◌≡◌, [], vec_items, sym, refl, ap, ◌∙◌, arith}
+use Rattle.std.proofs.Common.{◌≡◌, [], vec_items, arith}
 use Rattle.flow.specs.Drafts.{drawn_in}
-use Rattle.flow.specs.Held.{graph_of}
 use Rattle.flow.specs.Sound.{sound}
 use Rattle.flow.proofs.draft.Draft.begin.Goals as goal
 use Rattle.std.proofs.lemmas.List.{nil_from_length}

@@ -1,4 +1,4 @@
-use Rattle.std.proofs.Common.{◌≡◌, ◌≤◌, ◌⊎◌, sym, ap, ◌∙◌, inl, inr, arith}
+use Rattle.std.proofs.Common.{◌≤◌, ◌⊎◌, sym, ap, ◌∙◌, inl, inr, arith}
 use Rattle.flow.specs.Drafts.{drawn_in}
 use Rattle.flow.specs.Drawn.{is_edge}
 use Rattle.flow.specs.Tests.{any}

@@ -1,4 +1,4 @@
-use Rattle.std.proofs.Common.{◌≡◌, map, length, vec_items, sym, ap, ◌∙◌, inl, inr, arith}
+use Rattle.std.proofs.Common.{map, vec_items, sym, ap, ◌∙◌, inl, inr, arith}
 use Rattle.flow.specs.Drafts.{drawn_in}
 use Rattle.flow.specs.Drawn.{is_label}
 use Rattle.flow.specs.Held.{label_of}

@@ -1,4 +1,4 @@
-use Rattle.std.proofs.Common.{◌≡◌, Bool, sym, ap, ◌∙◌}
+use Rattle.std.proofs.Common.{Bool, sym, ap, ◌∙◌}
 use Rattle.flow.specs.Drawn.{is_label}
 use Rattle.flow.specs.Held.{label_of}
 use Rattle.flow.specs.declared.label.Label.{Label}

@@ -1,4 +1,4 @@
-use Rattle.std.proofs.Common.{◌≡◌, map, drop}
+use Rattle.std.proofs.Common.{◌≡◌, drop}
 use Rattle.flow.specs.Drawn.{is_label}
 use Rattle.flow.specs.Held.{label_of}
 use Rattle.flow.specs.Tests.{any}

@@ -1,4 +1,4 @@
-use Rattle.std.proofs.Common.{◌≡◌, Bool, eqb, sym, ap, ◌∙◌, subst}
+use Rattle.std.proofs.Common.{◌≡◌, ap, ◌∙◌}
 use Rattle.flow.specs.Held.{listed}
 use Rattle.flow.specs.Tests.{same_numbers}
 use Rattle.flow.proofs.Numbers.{same_numbers_decides}

@@ -1,4 +1,4 @@
-use Rattle.std.proofs.Common.{get_or, drop, sym, ap, ◌∙◌}
+use Rattle.std.proofs.Common.{get_or, sym, ap, ◌∙◌}
 use Rattle.flow.specs.Line.{made, predicate}
 use Rattle.flow.proofs.line.Line.of.Goals as goal
 use Rattle.std.proofs.lemmas.List.{take_rest}

@@ -1,4 +1,4 @@
-use Rattle.std.proofs.Common.{◌+◌, ◌∷◌, drop, ap, ◌∙◌, arith}
+use Rattle.std.proofs.Common.{◌+◌, drop, ap, ◌∙◌, arith}
 use Rattle.pages.specs.Pages.{shown}
 use Rattle.pages.specs.Records.{as_fields}
 use Rattle.pages.proofs.Adding.{add_done, add_step, then_add}

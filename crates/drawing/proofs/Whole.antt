@@ -19,7 +19,7 @@ use Rattle.drawing.proofs.Ends.{drawn_to_end, entered_to_end}
 use Rattle.flow.specs.Closed.{closed, loops}
 use Rattle.flow.specs.Graph.{Graph, nothing_drawn}
 use Rattle.flow.specs.Line.{Line}
-use Rattle.flow.specs.Sheet.{sheet as sheet-of}
+use Rattle.flow.specs.Sheet.{sheet as sheet_of}
 use Rattle.pages.proofs.Adding.{then_add}
 use Rattle.pages.specs.Pages.{add}
 use Rattle.records.specs.Texts.{records}
@@ -67,34 +67,34 @@ module _
         → p₄ ≡ add p₃ (done_text g₂ (length g₁.edges) (length ls) (t₁.refused + t₂.refused) t₂.checks)
         → p₄ ≡ add p₀ (drawing (records input))
     unfolding drawing
-    whole p₃ p₄ shown_case shown-done =
+    whole p₃ p₄ shown_case shown_done =
         let rs = records input in
         let graph : g₁ ≡ drawn_graph rs = ap graph_of (first.leaves ∙ drawn_to_end nothing_drawn rs) in
         let read : n₁ ≡ length rs - length (later empty_draft rs) = omega (arith, first.counted) in
         let sheet : closed_case (closed g₁) [] ≡ empty_sheet rs = ap (λ g. closed_case (closed g) []) graph in
-        let told-later : refused (closed_case (closed g₁) []) n₁ (records left₁) ≡ refused (empty_sheet rs)
+        let told_later : refused (closed_case (closed g₁) []) n₁ (records left₁) ≡ refused (empty_sheet rs)
         (length rs - length (later empty_draft rs)) (later empty_draft rs) =
         ap (λ s. refused s n₁ (records left₁)) sheet ∙ ap (λ n. refused (empty_sheet rs) n (records left₁)) read
         ∙ ap (refused (empty_sheet rs) (length rs - length (later empty_draft rs))) first.others in
         let lines : ls ≡ entered_lines rs =
-        ap lines_of (second.leaves ∙ entered_to_end (closed g₁) [] (records left₁)) ∙ ap (λ l. sheet-of (line_calls l)) first.others in
+        ap lines_of (second.leaves ∙ entered_to_end (closed g₁) [] (records left₁)) ∙ ap (λ l. sheet_of (line_calls l)) first.others in
         let asked : t₂.checks ≡ checks (empty_sheet rs) (later empty_draft rs) =
         second.asked ∙ ap (λ s. checks s (records left₁)) sheet ∙ ap (checks (empty_sheet rs)) first.others in
         let refusals : t₁.refused + t₂.refused ≡ length (all_refused rs) =
         omega (
           arith,
           first.refusals,
-          second.refusals ∙ ap length told-later,
+          second.refusals ∙ ap length told_later,
           length-append (refused empty_draft 0 rs)
               (refused (empty_sheet rs) (length rs - length (later empty_draft rs)) (later empty_draft rs)),
         ) in
         let text : List ℕ → Graph → List Line → ℕ → ℕ → ℕ → Option (List ℕ) =
-        λ refusals-told g l drawn count k. add p₀
-        (refusals-told ++ (case_text g l ++ done_text g drawn (length l) count k)) in
+        λ refusals_told g l drawn count k. add p₀
+        (refusals_told ++ (case_text g l ++ done_text g drawn (length l) count k)) in
         then_add p₀ p₂ p₄ _ _ (then_add p₀ p₁ p₂ _ _ first.printed second.printed)
-        (then_add p₂ p₃ p₄ _ _ shown_case shown-done)
+        (then_add p₂ p₃ p₄ _ _ shown_case shown_done)
         ∙ ap (λ l. text l g₂ ls (length g₁.edges) (t₁.refused + t₂.refused) t₂.checks)
-        (ap (λ l. told (refused empty_draft 0 rs) ++ told l) told-later
+        (ap (λ l. told (refused empty_draft 0 rs) ++ told l) told_later
         ∙ sym (told-append (refused empty_draft 0 rs) _))
         ∙ ap (λ g. text (told (all_refused rs)) g ls (length g₁.edges) (t₁.refused + t₂.refused) t₂.checks)
         (same_graph ∙ ap closed graph)

@@ -69,10 +69,10 @@ next (closed_case g ls) t = closed_case g (left_by entered_by ls (sheet_call t))
 
 -- by what becomes of a record: one thing where it closes the draft, another where it does not
 abbrev pub if_closes : {A : Type 0} → Result Step Fault → A → A → A
-if_closes (Ok Goes) yes-it-does it-does-not = it-does-not
-if_closes (Ok Checks) yes-it-does it-does-not = it-does-not
-if_closes (Ok Closes) yes-it-does it-does-not = yes-it-does
-if_closes (Err f) yes-it-does it-does-not = it-does-not
+if_closes (Ok Goes) yes_it_does it_does_not = it_does_not
+if_closes (Ok Checks) yes_it_does it_does_not = it_does_not
+if_closes (Ok Closes) yes_it_does it_does_not = yes_it_does
+if_closes (Err f) yes_it_does it_does_not = it_does_not
 
 -- where the case stands after the records up to the one that closes it
 unfoldable pub final : Standing → List (List ℕ) → Standing

@@ -1,6 +1,6 @@
 // The whole drawing of a text.
 ghost use Rattle.std.specs.Prelude.{◌≡◌, ◌≤◌, [], ◌∷◌, ◌++◌, length, Some};
-ghost use Rattle.drawing.specs.Output.{done_text, drawing as drawn-text, notice, output};
+ghost use Rattle.drawing.specs.Output.{done_text, drawing as drawn_text, notice, output};
 ghost use Rattle.flow.specs.Cases.{graph_in, lines_in};
 ghost use Rattle.pages.specs.Limit.{limit};
 ghost use Rattle.pages.specs.Pages.{Prints, shown};
@@ -42,7 +42,7 @@ fn show_done(case: &Case, drawn: usize, refused: u32, checks: u32, page: &mut Pa
 // Draws a text that is not too long.
 fn draw_text(room: Room, page: &mut Page, input: &[u8])
     requires { length input.now ≤ limit }
-    ensures { Prints page.old (drawn-text (records input.now)) page.new }
+    ensures { Prints page.old (drawn_text (records input.now)) page.new }
 {
     let mut splitter = Splitter::new(input);
     let mut draft = Draft::begin(room);

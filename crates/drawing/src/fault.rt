@@ -1,7 +1,7 @@
 // Why a record is refused: a fault of the text, or a refusal of the case, held whole.
 ghost use Rattle.std.specs.Prelude.{◌≡◌};
 ghost use Rattle.drawing.specs.Faults.{field_of, layer_of, letter as written, number_of};
-ghost use Rattle.drawing.specs.declared.fault.Fault.TheVariants.{Case as of-case, Text as of-text};
+ghost use Rattle.drawing.specs.declared.fault.Fault.TheVariants.{Case as of_case, Text as of_text};
 
 use flow::refusal::Refusal;
 use records::fault::Fault as TextFault;
@@ -34,7 +34,7 @@ pub enum Fault {
 }
 
 impl From<TextFault> for Fault {
-    ghost from_gives = { λ fault r. r ≡ of-text fault };
+    ghost from_gives = { λ fault r. r ≡ of_text fault };
 
     fn from(fault: TextFault) -> Fault {
         Self::Text(fault)
@@ -42,7 +42,7 @@ impl From<TextFault> for Fault {
 }
 
 impl From<Refusal> for Fault {
-    ghost from_gives = { λ refusal r. r ≡ of-case refusal };
+    ghost from_gives = { λ refusal r. r ≡ of_case refusal };
 
     fn from(refusal: Refusal) -> Fault {
         Self::Case(refusal)

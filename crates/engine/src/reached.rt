@@ -4,7 +4,7 @@ ghost use Rattle.flow.specs.Facts.{Ordered};
 ghost use Rattle.flow.specs.Held.{line_of};
 ghost use Rattle.flow.specs.Limits.{most_lines};
 ghost use Rattle.flow.specs.Tests.{every};
-ghost use Rattle.logic.specs.Reached.{marking, operands, reached as is-reached};
+ghost use Rattle.logic.specs.Reached.{marking, operands, reached as is_reached};
 ghost use Rattle.engine.specs.Marks.{marked};
 
 use flow::limits::MOST_LINES;
@@ -37,7 +37,7 @@ pub fn reached(lines: &[Line], asked: usize) -> [bool; MOST_LINES]
     requires few { length lines.now ≤ most_lines }
     requires ordered { Ordered (map line_of lines.now) }
     requires known { asked < length lines.now }
-    ensures { marked result ≡ is-reached (map line_of lines.now) asked }
+    ensures { marked result ≡ is_reached (map line_of lines.now) asked }
 {
     let mut marks = [false; MOST_LINES];
     marks[asked] = true;

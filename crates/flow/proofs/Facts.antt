@@ -18,11 +18,11 @@ use Rattle.flow.proofs.Refusing.{after_accepted, after_refused}
 use Rattle.flow.proofs.Soundness.{sound-added}
 use Rattle.std.proofs.lemmas.Bool.{and_parts, cases_lt, cond_both, false≢true, leb-true, ltb-true}
 use Rattle.std.proofs.lemmas.Bool.Decides.{nat_tests}
-use Rattle.std.specs.List.{AllByRecursion as All}
+use Rattle.std.specs.List.{AllByRecursion}
 
 -- a test that each element passes, as a fact of each
 all_from_every : {A : Type 0} (p : A → Bool) (P : A → Type 0) → ((x : A) → p x ≡ true → P x) → (xs : List A)
-    → every p xs ≡ true → All P xs
+    → every p xs ≡ true → AllByRecursion P xs
 all_from_every p P f [] e = tt
 all_from_every p P f (x ∷ xs) e =
     let h = and_parts (p x) (every p xs) e in
@@ -45,13 +45,13 @@ leads_from_leaves (x ∷ es) s e =
     (λ f. leads_from_leaves es s (ap (λ t. t || leaves es s) (sym f) ∙ e))
 
 -- where edges join states, successors are states
-stays_from_inside : (n : ℕ) (es : List Edge) (s : ℕ) → every (inside n) es ≡ true → All (λ t. t < n) (ends es s)
+stays_from_inside : (n : ℕ) (es : List Edge) (s : ℕ) → every (inside n) es ≡ true → AllByRecursion (λ t. t < n) (ends es s)
 stays_from_inside n [] s e = tt
 stays_from_inside n (x ∷ es) s e =
     let h = and_parts (inside n x) (every (inside n) es) e in
     let rest = stays_from_inside n es s h.1 in
     let first = ltb-true x.to n (and_parts (ltb x.from n) (ltb x.to n) h.0).1 in
-    cond_both (eqb x.from s) (x.to ∷ ends es s) (ends es s) (λ ts. All (λ t. t < n) ts) (λ f. (first, rest))
+    cond_both (eqb x.from s) (x.to ∷ ends es s) (ends es s) (λ ts. AllByRecursion (λ t. t < n) ts) (λ f. (first, rest))
     (λ f. rest)
 
 proper_from_test : (n : ℕ) (l : Label) → proper n l ≡ true → Proper n l

@@ -4,7 +4,7 @@ use Rattle.flow.specs.Graph.{Graph, Label, successors}
 use Rattle.flow.specs.Limits.{most_arguments, most_states, predicates}
 use Rattle.flow.specs.Line.{Line}
 use Rattle.flow.specs.Sheet.{right}
-use Rattle.std.specs.List.{AllByRecursion as All}
+use Rattle.std.specs.List.{AllByRecursion}
 
 -- the label is on a state, and keeps its bounds
 pub record Proper (states : ℕ) (l : Label) : Type 0 where
@@ -17,8 +17,8 @@ pub record ClosedGraph (g : Graph) : Type 0 where
   -- every state has a successor
   pub leads : (s : ℕ) → s < g.states → 0 < length (successors g s)
   -- every successor is a state
-  pub stays : (s : ℕ) → All (λ t. t < g.states) (successors g s)
-  pub labelled : All (Proper g.states) g.labels
+  pub stays : (s : ℕ) → AllByRecursion (λ t. t < g.states) (successors g s)
+  pub labelled : AllByRecursion (Proper g.states) g.labels
 
 -- each line has right operands where it stands: it names earlier lines only, and keeps the bounds of variables and
 -- predicates

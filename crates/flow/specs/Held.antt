@@ -34,10 +34,10 @@ line_of (And a b) = sheet.and a b
 line_of (Or a b) = sheet.or a b
 line_of (Not a) = sheet.not a
 line_of (Exists x a) = sheet.exists x a
-line_of (AllNext a) = sheet.all-next a
+line_of (AllNext a) = sheet.all_next a
 line_of (SomeNext a) = sheet.some_next a
-line_of (AllUntil a b) = sheet.all-until a b
-line_of (SomeUntil a b) = sheet.some-until a b
+line_of (AllUntil a b) = sheet.all_until a b
+line_of (SomeUntil a b) = sheet.some_until a b
 
 -- a line that was asked for, or the refusal
 abbrev pub asked_of : Result written.Line Refusal → Result sheet.Line Refusal

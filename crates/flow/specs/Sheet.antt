@@ -1,10 +1,10 @@
 -- The sheet: what a call for a line is refused for, what it adds, and the lines that a list of calls enters.
-use Rattle.std.specs.Prelude.{ℕ, Bool, cond, ◌&&◌, ltb, List, [], ◌∷◌, ◌++◌, length, Some, None, Ok, Err, Option, Result, nat_lt}
+use Rattle.std.specs.Prelude.{ℕ, Bool, cond, ◌&&◌, List, [], ◌∷◌, ◌++◌, length, Some, None, Ok, Err, Option, Result, nat_lt}
 use Rattle.flow.specs.Limits.{most_lines, predicates, variables}
 use Rattle.flow.specs.Line.{
   Line,
-  all-next,
-  all-until,
+  all_next,
+  all_until,
   and,
   exists,
   made,
@@ -12,7 +12,7 @@ use Rattle.flow.specs.Line.{
   or,
   predicate,
   some_next,
-  some-until,
+  some_until,
 }
 use Rattle.flow.specs.Operators.{counted, operator_of}
 use Rattle.flow.specs.Tests.{every}
@@ -22,15 +22,15 @@ use Rattle.flow.specs.declared.refusal.Refusal.TheVariants.{BadOperand, TableFul
 
 -- after n lines the operands are right: lines are earlier ones, variables and predicates are below their bounds
 abbrev pub right : ℕ → Line → Bool
-right n (predicate p xs) = nat_lt p predicates && every (λ x. ltb x variables) xs
+right n (predicate p xs) = nat_lt p predicates && every (λ x. nat_lt x variables) xs
 right n (and a b) = nat_lt a n && nat_lt b n
 right n (or a b) = nat_lt a n && nat_lt b n
 right n (not a) = nat_lt a n
 right n (exists x a) = nat_lt x variables && nat_lt a n
-right n (all-next a) = nat_lt a n
+right n (all_next a) = nat_lt a n
 right n (some_next a) = nat_lt a n
-right n (all-until a b) = nat_lt a n && nat_lt b n
-right n (some-until a b) = nat_lt a n && nat_lt b n
+right n (all_until a b) = nat_lt a n && nat_lt b n
+right n (some_until a b) = nat_lt a n && nat_lt b n
 
 -- the line that an operator and numbers ask for
 abbrev pub worded : Option Operator → List ℕ → Result Line Refusal

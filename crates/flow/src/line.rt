@@ -1,7 +1,7 @@
 // A formula line: an operator with its operands. Lines are named by their numbers on the sheet.
 ghost use Rattle.std.specs.Prelude.{◌≡◌, true, nat_lt};
 ghost use Rattle.flow.specs.Held.{asked_of, line_of};
-ghost use Rattle.flow.specs.Line.{made as spelled, operator as headed-by};
+ghost use Rattle.flow.specs.Line.{made as spelled, operator as headed_by};
 ghost use Rattle.flow.specs.Operators.{counted, operator_of};
 ghost use Rattle.flow.specs.Sheet.{right as sits, worded};
 ghost use Rattle.flow.specs.Tests.{every};
@@ -112,7 +112,7 @@ impl Line {
 
     /// The line's operator.
     pub fn operator(&self) -> Operator
-        ensures { result ≡ headed-by (line_of self.now) }
+        ensures { result ≡ headed_by (line_of self.now) }
     {
         match *self {
             Line::Predicate { .. } => Operator::Predicate,

@@ -4,7 +4,7 @@ use Rattle.kinds.specs.Model.{Model}
 use Rattle.lists.specs.Formed.{formed_in}
 use Rattle.lists.specs.declared.witnesses.Witnesses.{Witnesses}
 use Rattle.logic.specs.Witnessing.{form, number_from, numbered}
-use Rattle.logic.specs.declared.shortage.Shortage.TheVariants.{Witnesses as Too-many}
+use Rattle.logic.specs.declared.shortage.Shortage.TheVariants.{Witnesses as TooMany}
 use Rattle.rows.specs.Forests.{most_witnesses}
 use Rattle.rows.specs.Witnesses.{equal_witness}
 use Rattle.rows.specs.declared.witness.Witness.{Witness}
@@ -51,6 +51,6 @@ module _ {B : Type 0} (m : Model B) (us : List (Witness B)) (w : Witness B) wher
     form_new n long room = ap (numbered m us w) none ∙ rw (long, lt-ltb n most_witnesses room)
 
     -- none is, and there is no room
-    pub form_full : most_witnesses ≤ length us → form m us w ≡ Err Too-many
+    pub form_full : most_witnesses ≤ length us → form m us w ≡ Err TooMany
     unfolding form
     form_full full = ap (numbered m us w) none ∙ rw (le-ltb (length us) most_witnesses full)

@@ -9,7 +9,7 @@ use Rattle.kinds.specs.Model.{Model}
 use Rattle.rows.specs.Forests.{union, none}
 use Rattle.rows.specs.declared.forest.Forest.{Forest}
 use Rattle.rows.specs.declared.row.Row.{Row}
-use Rattle.logic.specs.Formulas.{Formula, all-until}
+use Rattle.logic.specs.Formulas.{Formula, all_until}
 use Rattle.logic.specs.Satisfied.{Satisfies}
 use Rattle.logic.specs.Valuations.{Valuation, Values}
 use Rattle.logic.proofs.Covering.{Shown, shown?}
@@ -21,26 +21,26 @@ use Rattle.logic.proofs.Through.{through_all, through_each}
 use Rattle.logic.proofs.Walking.{leads, meets_later, meets_now, rest_endless, walk, walk_endless}
 
 module _ {B : Type 0} (m : Model B) (laws : Consequences m) (g : Graph) (closed : ClosedGraph g) (a b : Formula)
-    (ps qs rows : List (Row B)) (da : Decides m g a ps) (db : Decides m g b qs) (ps-inside : Inside m g ps)
-    (qs-inside : Inside m g qs)
+    (ps qs rows : List (Row B)) (da : Decides m g a ps) (db : Decides m g b qs) (ps_inside : Inside m g ps)
+    (qs_inside : Inside m g qs)
     (until : Least m g (each_next g) ps qs rows) where
   -- where a row is, b holds, or a does and each successor has a row
   all_sound : (v : Valuation) → Values m v → (s : ℕ) (f : Forest) → Shows m rows s v f
-      → Satisfies m g (all-until a b) s v
-  all_sound v h = (until.least v h (λ k s f. Satisfies m g (all-until a b) s v) (λ k s f w. w) start again).1
+      → Satisfies m g (all_until a b) s v
+  all_sound v h = (until.least v h (λ k s f. Satisfies m g (all_until a b) s v) (λ k s f w. w) start again).1
     where
-      start : (s : ℕ) (f : Forest) → Shows m qs s v f → Satisfies m g (all-until a b) s v
+      start : (s : ℕ) (f : Forest) → Shows m qs s v f → Satisfies m g (all_until a b) s v
       start s f w path e =
           meets_now (λ t. Satisfies m g a t v) (λ t. Satisfies m g b t v) path
-          (subst (λ (t : ℕ). Satisfies m g b t v) (sym e.begins) ((db s v (qs-inside s v f h w) h).1 (f, w)))
+          (subst (λ (t : ℕ). Satisfies m g b t v) (sym e.begins) ((db s v (qs_inside s v f h w) h).1 (f, w)))
 
       again : (k s : ℕ) (f e : Forest) → Shows m ps s v f
-          → each_next g (λ t x. Satisfies m g (all-until a b) t v) s e → Satisfies m g (all-until a b) s v
+          → each_next g (λ t x. Satisfies m g (all_until a b) t v) s e → Satisfies m g (all_until a b) s v
       again k s f _ w next path e =
           let i = subst (λ (u : ℕ). path 1 ∈ successors g u) e.begins (e.goes 0) in
-          let rest = (through_each (λ t x. Satisfies m g (all-until a b) t v) next (path 1) i).1 in
+          let rest = (through_each (λ t x. Satisfies m g (all_until a b) t v) next (path 1) i).1 in
           meets_later (λ t. Satisfies m g a t v) (λ t. Satisfies m g b t v) path
-          (subst (λ (t : ℕ). Satisfies m g a t v) (sym e.begins) ((da s v (ps-inside s v f h w) h).1 (f, w)))
+          (subst (λ (t : ℕ). Satisfies m g a t v) (sym e.begins) ((da s v (ps_inside s v f h w) h).1 (f, w)))
           (rest (λ j. path (suc j)) (rest_endless g s path e))
 
   module _ (v : Valuation) (h : Values m v) where
@@ -94,7 +94,7 @@ module _ {B : Type 0} (m : Model B) (laws : Consequences m) (g : Graph) (closed 
         (uncovered s l n k (λ i j. before i (omega arith)))
 
     -- a state without a row would have a path that never meets the until
-    all_full : (s : ℕ) (l : s < g.states) → Satisfies m g (all-until a b) s v → Dec (Shown m rows s v)
+    all_full : (s : ℕ) (l : s < g.states) → Satisfies m g (all_until a b) s v → Dec (Shown m rows s v)
         → Shown m rows s v
     all_full s l sat (yes w) = w
     all_full s l sat (no n) =
@@ -104,7 +104,7 @@ module _ {B : Type 0} (m : Model B) (laws : Consequences m) (g : Graph) (closed 
         absurd (uncovered s l n place.0 place.2 (r.0, until.start t.0 v r.0 r.1))
 
   -- so the rows of `A` show just what satisfies it
-  pub decides_all_until : Decides m g (all-until a b) rows
+  pub decides_all_until : Decides m g (all_until a b) rows
   decides_all_until s v l h = (
     λ sat. all_full v h s l sat (shown? m laws rows s v h),
     λ w. all_sound v h s w.0 w.1,

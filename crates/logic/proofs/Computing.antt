@@ -1,7 +1,7 @@
 -- Lines and checks computed: every working out comes to what is computed, and only to that.
 use Rattle.std.proofs.Common.{◌≡◌, ℕ, suc, Bool, true, false, List, [], ◌∷◌, length, Ok, Err, sym, refl, ap, ◌∙◌, subst, arith}
 use Rattle.flow.specs.Graph.{Graph}
-use Rattle.flow.specs.Line.{Line, predicate, and, or, not, exists, all-next, some_next, all-until, some-until}
+use Rattle.flow.specs.Line.{Line, predicate, and, or, not, exists, all_next, some_next, all_until, some_until}
 use Rattle.kinds.specs.Model.{Model}
 use Rattle.rows.specs.declared.row.Row.{Row}
 use Rattle.logic.specs.Operators.{of_all_next, of_and, of_not, of_or, of_predicate, of_some_next}
@@ -43,10 +43,10 @@ module _ {B : Type 0} (m : Model B) (g : Graph) (limit : ℕ) where
   work w (or a b) = plain w (of_or m g limit (list w a) (list w b))
   work w (not a) = plain w (of_not m g limit (list w a))
   work w (exists x a) = then (of_exists m limit x w.witnesses (list w a)) (λ q. Ok (with_witnesses w q))
-  work w (all-next a) = plain w (of_all_next m g limit (list w a))
+  work w (all_next a) = plain w (of_all_next m g limit (list w a))
   work w (some_next a) = plain w (of_some_next m g limit (list w a))
-  work w (all-until a b) = then (settled (of_all_next m g limit) w a b) (λ z. Ok (with_rounds w z))
-  work w (some-until a b) = then (settled (of_some_next m g limit) w a b) (λ z. Ok (with_rounds w z))
+  work w (all_until a b) = then (settled (of_all_next m g limit) w a b) (λ z. Ok (with_rounds w z))
+  work w (some_until a b) = then (settled (of_some_next m g limit) w a b) (λ z. Ok (with_rounds w z))
 
   -- an until settles as computed
   until_settles : (step : List (Row B) → Outcome (List (Row B))) (w : Work B) (a b : ℕ)
@@ -71,10 +71,10 @@ module _ {B : Type 0} (m : Model B) (g : Graph) (limit : ℕ) where
   works w (or a b) = refl
   works w (not a) = refl
   works w (exists x a) = refl
-  works w (all-next a) = refl
+  works w (all_next a) = refl
   works w (some_next a) = refl
-  works w (all-until a b) = (_, until_settles (of_all_next m g limit) w a b, refl)
-  works w (some-until a b) = (_, until_settles (of_some_next m g limit) w a b, refl)
+  works w (all_until a b) = (_, until_settles (of_all_next m g limit) w a b, refl)
+  works w (some_until a b) = (_, until_settles (of_some_next m g limit) w a b, refl)
 
   -- and in no other way
   works_only : (w : Work B) (l : Line) (out : Outcome (Work B)) → Works m g limit w l out → out ≡ work w l
@@ -84,10 +84,10 @@ module _ {B : Type 0} (m : Model B) (g : Graph) (limit : ℕ) where
   works_only w (or a b) out e = e
   works_only w (not a) out e = e
   works_only w (exists x a) out e = e
-  works_only w (all-next a) out e = e
+  works_only w (all_next a) out e = e
   works_only w (some_next a) out e = e
-  works_only w (all-until a b) out e = until_only (of_all_next m g limit) w a b out e
-  works_only w (some-until a b) out e = until_only (of_some_next m g limit) w a b out e
+  works_only w (all_until a b) out e = until_only (of_all_next m g limit) w a b out e
+  works_only w (some_until a b) out e = until_only (of_some_next m g limit) w a b out e
 
   module _ (wanted : ℕ → Bool) where
     -- a wanted line is worked, and any other has no rows

@@ -8,7 +8,7 @@ use Rattle.rows.specs.Forests.{none, single, union}
 use Rattle.rows.specs.declared.row.Row.{Row}
 use Rattle.rows.specs.declared.witness.Witness.{Witness}
 use Rattle.logic.specs.Faithful.{witness}
-use Rattle.logic.specs.Formulas.{Formula, predicate, and, or, not, exists, all-next, some_next, all-until, some-until}
+use Rattle.logic.specs.Formulas.{Formula, predicate, and, or, not, exists, all_next, some_next, all_until, some_until}
 use Rattle.logic.specs.Valuations.{put}
 use Rattle.logic.proofs.AllPaths.{decides_all_until}
 use Rattle.logic.proofs.Boxes.{values_put}
@@ -31,12 +31,12 @@ module _ {B : Type 0} (m : Model B) (laws : Consequences m) (g : Graph) (ws : Li
       let n = laws.filled (witness m ws k.0).found in
       let value = laws.within (witness m ws k.0).found n.0 n.1 in
       inside a r.0 r.1 s (put v x n.0) _ (values_put m v x n.0 h value) (k.3 n.0 n.1)
-  inside (all-next a) rows r s v f h w = (r.2.from_rows s v f h w).0
+  inside (all_next a) rows r s v f h w = (r.2.from_rows s v f h w).0
   inside (some_next a) rows r s v f h w = (r.2.from_rows s v f h w).0
-  inside (all-until a b) rows r s v f h w =
+  inside (all_until a b) rows r s v f h w =
       (r.4.least v h (λ k t e. t < g.states) (λ k t e l. l) (λ t e u. inside b r.1 r.3 t v e h u)
       (λ k t e i u next. inside a r.0 r.2 t v e h u)).1 s f w
-  inside (some-until a b) rows r s v f h w =
+  inside (some_until a b) rows r s v f h w =
       (r.4.least v h (λ k t e. t < g.states) (λ k t e l. l) (λ t e u. inside b r.1 r.3 t v e h u)
       (λ k t e i u next. inside a r.0 r.2 t v e h u)).1 s f w
 
@@ -84,7 +84,7 @@ module _ {B : Type 0} (m : Model B) (laws : Consequences m) (g : Graph) (ws : Li
           let da = decides a r.0 r.1 s (put v x n.0) l (values_put m v x n.0 h value) in
           (n.0, value, da.1 (_, k.3 n.0 n.1)),
     )
-    decides (all-next a) rows r s v l h =
+    decides (all_next a) rows r s v l h =
         let da = decides a r.0 r.1 in (
           λ sat.
               let each = through_all (shown m r.0 v) (successors g s)
@@ -103,9 +103,9 @@ module _ {B : Type 0} (m : Model B) (laws : Consequences m) (g : Graph) (ws : Li
               let k = (r.2.from_rows s v w.0 h w.1).1 in
               (k.0, k.1, (da k.0 v (stays closed s k.0 k.1) h).1 (w.0, k.2)),
         )
-    decides (all-until a b) rows r s v l h =
+    decides (all_until a b) rows r s v l h =
         decides_all_until m laws g closed a b r.0 r.1 rows (decides a r.0 r.2) (decides b r.1 r.3)
         (inside a r.0 r.2) (inside b r.1 r.3) r.4 s v l h
-    decides (some-until a b) rows r s v l h =
+    decides (some_until a b) rows r s v l h =
         decides_some_until m laws g closed a b r.0 r.1 rows (decides a r.0 r.2) (decides b r.1 r.3)
         (inside a r.0 r.2) (inside b r.1 r.3) r.4 s v l h

@@ -26,7 +26,7 @@ use Rattle.logic.proofs.Quantifying.{from_exists, in_exists}
 use Rattle.logic.proofs.Right.{Exactly, Freed, Least, each_next, one_next, shown}
 use Rattle.logic.proofs.Settling.{rounds_end, rounds_keep, rounds_shown, shows_again}
 use Rattle.logic.proofs.Shown.{Shows, add_all_gathers, shows_at, shows_in}
-use Rattle.logic.proofs.Sound.{Sound-rows}
+use Rattle.logic.proofs.Sound.{SoundRows}
 use Rattle.logic.proofs.Stepping.{from_some_next, in_some_next}
 use Rattle.logic.proofs.Through.{Showing}
 
@@ -77,7 +77,7 @@ module _ {B : Type 0} (m : Model B) (laws : Consequences m) (g : Graph) (limit :
 
   -- `!`: what no row covers, with no witnesses
   pub exact_not : (ps : List (Row B)) {rows : List (Row B)} → of_not m g limit ps ≡ Ok rows → (n : ℕ)
-      → Sound-rows m laws n ps → Exactly m g rows (λ v s f. (Covered m ps s v → ⊥) × (f ≡ none))
+      → SoundRows m laws n ps → Exactly m g rows (λ v s f. (Covered m ps s v → ⊥) × (f ≡ none))
   exact_not ps {rows} e n sound =
       record {
         in_rows = λ s v f l h w.

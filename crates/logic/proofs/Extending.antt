@@ -1,7 +1,7 @@
 -- Working lines: the table of witnesses only grows, at its end.
 use Rattle.std.proofs.Common.{◌≡◌, ℕ, Bool, List, Ok, sym, subst}
 use Rattle.flow.specs.Graph.{Graph}
-use Rattle.flow.specs.Line.{Line, predicate, and, or, not, exists, all-next, some_next, all-until, some-until}
+use Rattle.flow.specs.Line.{Line, predicate, and, or, not, exists, all_next, some_next, all_until, some_until}
 use Rattle.kinds.specs.Consequences.{Consequences}
 use Rattle.kinds.specs.Model.{Model}
 use Rattle.rows.specs.declared.row.Row.{Row}
@@ -54,10 +54,10 @@ module _ {B : Type 0} (m : Model B) (laws : Consequences m) (g : Graph) (limit :
       let q = then_made (of_exists m limit x w.witnesses (list w a)) (with_witnesses w) e in
       subst (λ (z : Work B). Extends w.witnesses z.witnesses) (sym q.2)
       (exists_extends m laws limit x w.witnesses (list w a) q.1)
-  works_extends w next (all-next a) e = extends_plain w next _ e
+  works_extends w next (all_next a) e = extends_plain w next _ e
   works_extends w next (some_next a) e = extends_plain w next _ e
-  works_extends w next (all-until a b) e = extends_settles w next e.0 e.2
-  works_extends w next (some-until a b) e = extends_settles w next e.0 e.2
+  works_extends w next (all_until a b) e = extends_settles w next e.0 e.2
+  works_extends w next (some_until a b) e = extends_settles w next e.0 e.2
 
   module _ (wanted : ℕ → Bool) where
     -- working on, the table only grows

@@ -10,7 +10,7 @@ use Rattle.rows.specs.declared.row.Row.{Row}
 use Rattle.rows.specs.declared.witness.Witness.{Witness}
 use Rattle.logic.specs.Accounts.{Account, Accounting, Accounts, of_until, within}
 use Rattle.logic.specs.Faithful.{Filling, trees, witness}
-use Rattle.logic.specs.Formulas.{Formula, predicate, and, or, not, exists, all-next, some_next, all-until, some-until}
+use Rattle.logic.specs.Formulas.{Formula, predicate, and, or, not, exists, all_next, some_next, all_until, some_until}
 use Rattle.logic.specs.Trees.{Trees, bare, tree}
 use Rattle.logic.specs.Valuations.{Valuation, Values, put}
 use Rattle.logic.proofs.Boxes.{values_put}
@@ -53,11 +53,11 @@ module _ {B : Type 0} (m : Model B) (g : Graph) (ws : List (Witness B)) where
   steady (or a b) v s x y e (inr w) = inr (steady b v s x y e w)
   steady (not a) v s x y e w = (w.0, ≋_trans y x bare (≋_sym x y e) w.1)
   steady (exists z a) v s x y e w = (w.0, w.1, w.2, w.3, ≋_trans y x _ (≋_sym x y e) w.4)
-  steady (all-next a) v s x y e w = (pace_each m ws g).next_same (Accounts m g a v) (steady a v) s x y e w
+  steady (all_next a) v s x y e w = (pace_each m ws g).next_same (Accounts m g a v) (steady a v) s x y e w
   steady (some_next a) v s x y e w = (pace_one m ws g).next_same (Accounts m g a v) (steady a v) s x y e w
-  steady (all-until a b) v s x y e w =
+  steady (all_until a b) v s x y e w =
       (w.0, within_same (pace_each m ws g) (Accounts m g a v) (Accounts m g b v) (steady b v) w.0 s x y e w.1)
-  steady (some-until a b) v s x y e w =
+  steady (some_until a b) v s x y e w =
       (w.0, within_same (pace_one m ws g) (Accounts m g a v) (Accounts m g b v) (steady b v) w.0 s x y e w.1)
 
   -- every filling of what the rows show is an account
@@ -130,15 +130,15 @@ module _ {B : Type 0} (m : Model B) (g : Graph) (ws : List (Witness B)) where
         one.4 ∙ ap (λ (t : ℕ). tree t u.variable n one.1 bare) bears.state
         ∙ ap (λ (y : ℕ). tree s y n one.1 bare) bears.variable in
         (n, one.1, value, inner, ≋_eq same)
-    fills (all-next a) rows r s v f h w acc k =
+    fills (all_next a) rows r s v f h w acc k =
         (pace_each m ws g).fills (λ t e. Shows m r.0 t v e) (Accounts m g a v)
         (λ t e u x i. fills a r.0 r.1 t v e h u x i) s f (r.2.from_rows s v f h w).1 acc k
     fills (some_next a) rows r s v f h w acc k =
         (pace_one m ws g).fills (λ t e. Shows m r.0 t v e) (Accounts m g a v)
         (λ t e u x i. fills a r.0 r.1 t v e h u x i) s f (r.2.from_rows s v f h w).1 acc k
-    fills (all-until a b) rows r s v f h w acc k =
+    fills (all_until a b) rows r s v f h w acc k =
         fills_until (pace_each m ws g) a b r.0 r.1 rows (fills a r.0 r.2) (fills b r.1 r.3) r.4
         s v f h w acc k
-    fills (some-until a b) rows r s v f h w acc k =
+    fills (some_until a b) rows r s v f h w acc k =
         fills_until (pace_one m ws g) a b r.0 r.1 rows (fills a r.0 r.2) (fills b r.1 r.3) r.4
         s v f h w acc k

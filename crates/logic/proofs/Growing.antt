@@ -27,7 +27,7 @@ use Rattle.logic.specs.declared.shortage.Shortage.TheVariants.{Witnesses}
 use Rattle.logic.proofs.Forming.{Extends, Numbers, extends_at, form_numbers}
 use Rattle.logic.proofs.Grounded.{Grounded}
 use Rattle.logic.proofs.Quantifying.{frees}
-use Rattle.logic.proofs.Sound.{Sound, Sound-rows}
+use Rattle.logic.proofs.Sound.{Sound, SoundRows}
 use Rattle.logic.proofs.Thens.{err_ok, ok_inj, then_parts}
 use Rattle.std.proofs.lemmas.List.{get_or_append_left, get_or_push, length-append}
 use Rattle.std.proofs.lemmas.Bool.{eqb-true, ltb-true}
@@ -97,14 +97,14 @@ module _ {B : Type 0} (m : Model B) (laws : Consequences m) where
         (λ o i. known_more us a.0.witnesses o.forest n.0 (known o (there i)))
 
     module _ (us : List (Witness B)) (ps : List (Row B)) {q : Quantified B} (e : of_exists m limit x us ps ≡ Ok q)
-        (grounded : Grounded m us) (sound : Sound-rows m laws (length us) ps) where
+        (grounded : Grounded m us) (sound : SoundRows m laws (length us) ps) where
       -- `Q` leaves the table grounded
       pub exists_grounded : Grounded m q.witnesses
       unfolding of_exists
       exists_grounded = grounded_from us [] ps e grounded (λ p i. (sound.each p i).known)
 
       -- the freed rows are sound
-      pub exists_sound : Sound-rows m laws (length q.witnesses) q.rows
+      pub exists_sound : SoundRows m laws (length q.witnesses) q.rows
       unfolding of_exists
       exists_sound = record { each = λ r i. step r ((frees m laws limit x us [] ps e).from_freed r i) }
         where

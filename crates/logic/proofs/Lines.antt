@@ -2,7 +2,7 @@
 use Rattle.std.proofs.Common.{◌≡◌, ℕ, true, ltb, List, length, Ok, sym, refl, subst}
 use Rattle.flow.specs.Graph.{Graph}
 use Rattle.flow.specs.Limits.{predicates, variables}
-use Rattle.flow.specs.Line.{Line, predicate, and, or, not, exists, all-next, some_next, all-until, some-until}
+use Rattle.flow.specs.Line.{Line, predicate, and, or, not, exists, all_next, some_next, all_until, some_until}
 use Rattle.flow.specs.Sheet.{right}
 use Rattle.flow.specs.Tests.{every}
 use Rattle.kinds.specs.Consequences.{Consequences}
@@ -139,9 +139,9 @@ module _ {B : Type 0} (m : Model B) (laws : Consequences m) (g : Graph) (limit :
         };
         grounded = exists_grounded m laws limit x w.witnesses (list w a) q.1 grounded y.is_sound;
       })
-  worked (all-next a) i r e later ops =
+  worked (all_next a) i r e later ops =
       let x = ops a (here refl) in
-      worked_plain (all-next a) _ e (λ rows q. record {
+      worked_plain (all_next a) _ e (λ rows q. record {
         is_right = (list w a, x.is_right, exact_all_next m laws g limit (list w a) q);
         is_sound = sound_all_next m laws limit g (list w a) q x.is_sound;
       })
@@ -151,10 +151,10 @@ module _ {B : Type 0} (m : Model B) (laws : Consequences m) (g : Graph) (limit :
         is_right = (list w a, x.is_right, exact_some_next m laws g limit (list w a) q);
         is_sound = sound_some_next m laws limit g (list w a) q x.is_sound;
       })
-  worked (all-until a b) i r e later ops =
+  worked (all_until a b) i r e later ops =
       let x = ops a (here refl) in
       let y = ops b (there (here refl)) in
-      worked_settles (all-until a b) e.0 e.2 (λ z q.
+      worked_settles (all_until a b) e.0 e.2 (λ z q.
       let rounds = subst (λ (o : Outcome (Settled B)).
       Rounds (round m limit (of_all_next m g limit) (list w a)) (list w b) o) q e.1 in
       record {
@@ -169,10 +169,10 @@ module _ {B : Type 0} (m : Model B) (laws : Consequences m) (g : Graph) (limit :
         is_sound = sound_rounds m laws limit (of_all_next m g limit)
             (λ rows next f s. sound_all_next m laws limit g rows f s) (list w a) rounds x.is_sound y.is_sound;
       })
-  worked (some-until a b) i r e later ops =
+  worked (some_until a b) i r e later ops =
       let x = ops a (here refl) in
       let y = ops b (there (here refl)) in
-      worked_settles (some-until a b) e.0 e.2 (λ z q.
+      worked_settles (some_until a b) e.0 e.2 (λ z q.
       let rounds = subst (λ (o : Outcome (Settled B)).
       Rounds (round m limit (of_some_next m g limit) (list w a)) (list w b) o) q e.1 in
       record {

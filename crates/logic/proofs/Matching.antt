@@ -10,7 +10,7 @@ use Rattle.rows.specs.declared.row.Row.{Row}
 use Rattle.rows.specs.declared.witness.Witness.{Witness}
 use Rattle.logic.specs.Accounts.{Account, Accounting, Accounts, ◌≋◌, within}
 use Rattle.logic.specs.Faithful.{Covered, Matches, trees, witness}
-use Rattle.logic.specs.Formulas.{Formula, predicate, and, or, not, exists, all-next, some_next, all-until, some-until}
+use Rattle.logic.specs.Formulas.{Formula, predicate, and, or, not, exists, all_next, some_next, all_until, some_until}
 use Rattle.logic.specs.Trees.{Trees, bare, tree, ◌∪◌}
 use Rattle.logic.specs.Valuations.{Valuation, Values, put}
 use Rattle.logic.proofs.Boxes.{values_put}
@@ -116,13 +116,13 @@ module _ {B : Type 0} (m : Model B) (g : Graph) (ws : List (Witness B)) where
                 (subst (λ (t : Trees B). Matches m t (tree s x n w.1 bare)) (sym same) one)
                 (≋_sym acc (tree s x n w.1 bare) w.4),
           )
-      tells (all-next a) rows r s v l h acc w =
+      tells (all_next a) rows r s v l h acc w =
           tells_next (pace_each m ws g) a r.0 rows (tells a r.0 r.1) r.2 s v l h acc w
       tells (some_next a) rows r s v l h acc w =
           tells_next (pace_one m ws g) a r.0 rows (tells a r.0 r.1) r.2 s v l h acc w
-      tells (all-until a b) rows r s v l h acc w =
+      tells (all_until a b) rows r s v l h acc w =
           tells_until (pace_each m ws g) a b r.0 r.1 rows (tells a r.0 r.2) (tells b r.1 r.3) r.4
           v h w.0 s l acc w.1
-      tells (some-until a b) rows r s v l h acc w =
+      tells (some_until a b) rows r s v l h acc w =
           tells_until (pace_one m ws g) a b r.0 r.1 rows (tells a r.0 r.2) (tells b r.1 r.3) r.4
           v h w.0 s l acc w.1

@@ -4,7 +4,7 @@ use native.Mathlib.Decide.{ℕ_discrete}
 use Rattle.flow.specs.Tests.{any, every}
 use Rattle.kinds.specs.Member.{◌∈◌, here, there}
 use Rattle.std.proofs.lemmas.Bool.{and_parts, false≢true, or_left, or_right}
-use Rattle.std.specs.List.{range_with_len, flat_map, AllByRecursion as All}
+use Rattle.std.specs.List.{range_with_len, flat_map, AllByRecursion}
 use Rattle.std.specs.Option.{option_to_list}
 
 module _ {A : Type 0} where
@@ -71,7 +71,7 @@ module _ {A : Type 0} where
   from_every p (x ∷ xs) e (there i) = from_every p xs (and_parts (p x) (every p xs) e).1 i
 
   -- what holds of all elements holds of each
-  pub from_all : (P : A → Type 0) {a : A} {xs : List A} → All P xs → a ∈ xs → P a
+  pub from_all : (P : A → Type 0) {a : A} {xs : List A} → AllByRecursion P xs → a ∈ xs → P a
   from_all P h (here e) = subst P (sym e) h.0
   from_all P h (there i) = from_all P h.1 i
 

@@ -107,14 +107,14 @@ module _ {B : Type 0} (m : Model B) (laws : Consequences m) where
     in_predicate {s} {v} i h w =
         let l = w.label in
         let q = in_naming (blank m s) xs l.values (nameable l w.among) h (covers_blank s v h) w.of_values in
-        let here-test : (eqb l.state s && eqb l.predicate p) ≡ true =
+        let here_test : (eqb l.state s && eqb l.predicate p) ≡ true =
         ap (λ (b : Bool). b && eqb l.predicate p) (eq-eqb l.state s w.at_state)
         ∙ eq-eqb l.predicate p w.says in
         (add_all_gathers m laws limit [] (labelled m g p xs) e).shows s v none
         (record {
           row = q.0;
           among = in_joined _ (in_counting 0 g.states s (omega arith) (omega arith))
-              (in_joined (of_label m g p xs s) w.among (in_cond _ _ here-test (in_listed _ q.1)));
+              (in_joined (of_label m g p xs s) w.among (in_cond _ _ here_test (in_listed _ q.1)));
           covers = q.2;
           forest = q.3;
         })
@@ -137,13 +137,13 @@ module _ {B : Type 0} (m : Model B) (laws : Consequences m) where
             let n = from_naming (blank m a.0) w.row xs l.values (λ x i. rw length-replicate (small x i))
             (nameable l b.1) (from_listed _ c.1) s v h w.covers in
             let at = eqb-true l.state a.0 t.0 in
-            let there-state = n.0.state in
+            let there_state = n.0.state in
             let inside = from_counting 0 g.states a.0 a.1 in (
-              subst (λ (u : ℕ). u < g.states) there-state (omega arith),
+              subst (λ (u : ℕ). u < g.states) there_state (omega arith),
               record {
                 label = l;
                 among = b.1;
-                at_state = at ∙ there-state;
+                at_state = at ∙ there_state;
                 says = eqb-true l.predicate p t.1;
                 of_values = n.1;
               },

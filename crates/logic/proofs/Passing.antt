@@ -42,7 +42,7 @@ use Rattle.logic.specs.Witnessing.{form, of_exists}
 use Rattle.logic.proofs.Computing.{outcome, outcome_checks, work, work_all}
 use Rattle.logic.proofs.Rounding.{settle}
 use Rattle.std.proofs.lemmas.Bool.{and_parts}
-use Rattle.std.specs.List.{AllByRecursion as All}
+use Rattle.std.specs.List.{AllByRecursion}
 
 -- the trial comes out as it is to, with the outcome that is computed
 abbrev passes : Trial → Bool
@@ -66,7 +66,7 @@ from_passes (amounts_meet a b expected) e = e
 from_passes (amount_pieces b expected) e = e
 
 -- so do all trials
-all_pass : (ts : List Trial) → every passes ts ≡ true → All Passes ts
+all_pass : (ts : List Trial) → every passes ts ≡ true → AllByRecursion Passes ts
 all_pass [] e = tt
 all_pass (t ∷ ts) e =
     let h = and_parts (passes t) (every passes ts) e in (from_passes t h.0, all_pass ts h.1)

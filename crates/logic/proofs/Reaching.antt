@@ -3,7 +3,7 @@ use Rattle.std.proofs.Common.{◌≡◌, ℕ, zero, suc, ◌+◌, ◌<◌, ◌�
 use native.Mathlib.Decide.{ℕ_discrete, dec_lt}
 use Rattle.flow.specs.Facts.{Ordered}
 use Rattle.flow.specs.Limits.{variables}
-use Rattle.flow.specs.Line.{Line, predicate, and, or, not, exists, all-next, some_next, all-until, some-until}
+use Rattle.flow.specs.Line.{Line, predicate, and, or, not, exists, all_next, some_next, all_until, some_until}
 use Rattle.flow.specs.Sheet.{right}
 use Rattle.flow.specs.Tests.{any}
 use Rattle.kinds.specs.Member.{◌∈◌, here, there}
@@ -32,10 +32,10 @@ names_earlier n (and x y) t a i = both_below n x y t a i
 names_earlier n (or x y) t a i = both_below n x y t a i
 names_earlier n (not x) t a i = one_below n x t a i
 names_earlier n (exists x y) t a i = one_below n y (and_parts (ltb x variables) (ltb y n) t).1 a i
-names_earlier n (all-next x) t a i = one_below n x t a i
+names_earlier n (all_next x) t a i = one_below n x t a i
 names_earlier n (some_next x) t a i = one_below n x t a i
-names_earlier n (all-until x y) t a i = both_below n x y t a i
-names_earlier n (some-until x y) t a i = both_below n x y t a i
+names_earlier n (all_until x y) t a i = both_below n x y t a i
+names_earlier n (some_until x y) t a i = both_below n x y t a i
 
 -- each wanted line among those from n on is right where it stands, and its operands are earlier and wanted
 abbrev pub Wanting : (ℕ → Bool) → ℕ → List Line → Type 0

@@ -12,14 +12,14 @@ use Rattle.logic.specs.Promises.{NameableLabels}
 use Rattle.logic.specs.Working.{Work}
 use Rattle.logic.proofs.Grounded.{Grounded}
 use Rattle.logic.proofs.Right.{Right}
-use Rattle.logic.proofs.Sound.{Sound-rows}
+use Rattle.logic.proofs.Sound.{SoundRows}
 
 module _ {B : Type 0} (m : Model B) (laws : Consequences m) (g : Graph) (limit : ℕ)
     (nameable : NameableLabels m g) where
   -- the list of a line is right for its formula, and sound
   pub record Ready (ws : List (Witness B)) (n : ℕ) (φ : Formula) (rows : List (Row B)) : Type 1 where
     pub is_right : Right m g ws φ rows
-    pub is_sound : Sound-rows m laws n rows
+    pub is_sound : SoundRows m laws n rows
 
   -- a line is worked: its list comes after those that were there, and witnesses name earlier ones still
   pub record Worked (w next : Work B) (fs : List Formula) (l : Line) (ws : List (Witness B)) : Type 1 where

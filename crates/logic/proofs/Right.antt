@@ -9,7 +9,7 @@ use Rattle.rows.specs.declared.forest.Forest.{Forest}
 use Rattle.rows.specs.declared.row.Row.{Row}
 use Rattle.rows.specs.declared.witness.Witness.{Witness}
 use Rattle.logic.specs.Faithful.{Covered, witness}
-use Rattle.logic.specs.Formulas.{Formula, predicate, and, or, not, exists, all-next, some_next, all-until, some-until}
+use Rattle.logic.specs.Formulas.{Formula, predicate, and, or, not, exists, all_next, some_next, all_until, some_until}
 use Rattle.logic.specs.Satisfied.{Labelled}
 use Rattle.logic.specs.Valuations.{Valuation, Values, put}
 use Rattle.logic.proofs.Quantifying.{Bears}
@@ -71,9 +71,9 @@ module _ {B : Type 0} (m : Model B) where
       Right (not a) rows =
           (ps : List (Row B)) × Right a ps × Exactly rows (λ v s f. (Covered m ps s v → ⊥) × (f ≡ none))
       Right (exists x a) rows = (ps : List (Row B)) × Right a ps × Freed x ps rows
-      Right (all-next a) rows = (ps : List (Row B)) × Right a ps × Exactly rows (λ v. each_next g (shown ps v))
+      Right (all_next a) rows = (ps : List (Row B)) × Right a ps × Exactly rows (λ v. each_next g (shown ps v))
       Right (some_next a) rows = (ps : List (Row B)) × Right a ps × Exactly rows (λ v. one_next g (shown ps v))
-      Right (all-until a b) rows =
+      Right (all_until a b) rows =
           (ps : List (Row B)) × (qs : List (Row B)) × Right a ps × Right b qs × Least (each_next g) ps qs rows
-      Right (some-until a b) rows =
+      Right (some_until a b) rows =
           (ps : List (Row B)) × (qs : List (Row B)) × Right a ps × Right b qs × Least (one_next g) ps qs rows

@@ -8,7 +8,7 @@ use Rattle.kinds.specs.Model.{Model}
 use Rattle.rows.specs.Forests.{union}
 use Rattle.rows.specs.declared.forest.Forest.{Forest}
 use Rattle.rows.specs.declared.row.Row.{Row}
-use Rattle.logic.specs.Formulas.{Formula, some-until}
+use Rattle.logic.specs.Formulas.{Formula, some_until}
 use Rattle.logic.specs.Satisfied.{Satisfies}
 use Rattle.logic.specs.Valuations.{Valuation, Values}
 use Rattle.logic.proofs.Covering.{Shown}
@@ -18,29 +18,29 @@ use Rattle.logic.proofs.Shown.{Shows}
 use Rattle.logic.proofs.Walking.{after, after_endless, meets_later, meets_now, some_path, stays}
 
 module _ {B : Type 0} (m : Model B) (laws : Consequences m) (g : Graph) (closed : ClosedGraph g) (a b : Formula)
-    (ps qs rows : List (Row B)) (da : Decides m g a ps) (db : Decides m g b qs) (ps-inside : Inside m g ps)
-    (qs-inside : Inside m g qs)
+    (ps qs rows : List (Row B)) (da : Decides m g a ps) (db : Decides m g b qs) (ps_inside : Inside m g ps)
+    (qs_inside : Inside m g qs)
     (until : Least m g (one_next g) ps qs rows) where
   -- what is shown has a path: b holds here, or a does and a successor has one
   some_sound : (v : Valuation) → Values m v → (s : ℕ) (f : Forest) → Shows m rows s v f
-      → Satisfies m g (some-until a b) s v
-  some_sound v h = (until.least v h (λ k s f. Satisfies m g (some-until a b) s v) (λ k s f w. w) start again).1
+      → Satisfies m g (some_until a b) s v
+  some_sound v h = (until.least v h (λ k s f. Satisfies m g (some_until a b) s v) (λ k s f w. w) start again).1
     where
-      start : (s : ℕ) (f : Forest) → Shows m qs s v f → Satisfies m g (some-until a b) s v
+      start : (s : ℕ) (f : Forest) → Shows m qs s v f → Satisfies m g (some_until a b) s v
       start s f w =
-          let l = qs-inside s v f h w in
+          let l = qs_inside s v f h w in
           let p = some_path closed s l in
-          let here-b = subst (λ (t : ℕ). Satisfies m g b t v) (sym p.1.begins) ((db s v l h).1 (f, w)) in
-          (p.0, p.1, meets_now (λ t. Satisfies m g a t v) (λ t. Satisfies m g b t v) p.0 here-b)
+          let here_b = subst (λ (t : ℕ). Satisfies m g b t v) (sym p.1.begins) ((db s v l h).1 (f, w)) in
+          (p.0, p.1, meets_now (λ t. Satisfies m g a t v) (λ t. Satisfies m g b t v) p.0 here_b)
 
       again : (k s : ℕ) (f e : Forest) → Shows m ps s v f
-          → one_next g (λ t e. Satisfies m g (some-until a b) t v) s e → Satisfies m g (some-until a b) s v
+          → one_next g (λ t e. Satisfies m g (some_until a b) t v) s e → Satisfies m g (some_until a b) s v
       again k s f e w next =
           let p = next.2 in
-          let here-a = (da s v (ps-inside s v f h w) h).1 (f, w) in (
+          let here_a = (da s v (ps_inside s v f h w) h).1 (f, w) in (
             after s p.0,
             after_endless g s next.0 p.0 next.1 p.1,
-            meets_later (λ t. Satisfies m g a t v) (λ t. Satisfies m g b t v) (after s p.0) here-a p.2,
+            meets_later (λ t. Satisfies m g a t v) (λ t. Satisfies m g b t v) (after s p.0) here_a p.2,
           )
 
   -- from the place where b holds back to the first, each state of the path is shown
@@ -56,7 +56,7 @@ module _ {B : Type 0} (m : Model B) (laws : Consequences m) (g : Graph) (closed 
       (union p.0 r.0, until.again (path 0) v p.0 r.0 l h p.1 (path 1, goes 0, r.1))
 
   -- so the rows of `U` show just what satisfies it
-  pub decides_some_until : Decides m g (some-until a b) rows
+  pub decides_some_until : Decides m g (some_until a b) rows
   decides_some_until s v l h = (
     λ w.
         let e = w.1.begins in

@@ -27,11 +27,11 @@ module _ {B : Type 0} (m : Model B) (laws : Consequences m) where
     pub sized : length r.boxes ≡ variables
     pub known : (j : ℕ) → has r.forest j ≡ true → j < n
 
-  pub record Sound-rows (n : ℕ) (rows : List (Row B)) : Type 0 where
+  pub record SoundRows (n : ℕ) (rows : List (Row B)) : Type 0 where
     pub each : (r : Row B) → r ∈ rows → Sound n r
 
   -- rows that are sound stay so as the table grows
-  pub sound_more : {n k : ℕ} {rows : List (Row B)} → n ≤ k → Sound-rows n rows → Sound-rows k rows
+  pub sound_more : {n k : ℕ} {rows : List (Row B)} → n ≤ k → SoundRows n rows → SoundRows k rows
   sound_more l s =
       record {
         each = λ r i. record {
@@ -41,7 +41,7 @@ module _ {B : Type 0} (m : Model B) (laws : Consequences m) where
       }
 
   -- the empty list is sound
-  pub sound_none : {n : ℕ} → Sound-rows n []
+  pub sound_none : {n : ℕ} → SoundRows n []
   sound_none = record { each = λ r i. elim i [ ] }
 
   -- blank rows are sound
@@ -100,7 +100,7 @@ module _ {B : Type 0} (m : Model B) (laws : Consequences m) where
       subst (λ (p : Row B). Sound k p) (sym a.2) (sound_box x a.0 (s r refl))) e
 
   -- the rows of a denial are sound
-  pub sound_denial : (n states : ℕ) (t : Row B) → Sound-rows n (denial m states t)
+  pub sound_denial : (n states : ℕ) (t : Row B) → SoundRows n (denial m states t)
   unfolding denial
   sound_denial n states t =
       record { each = λ r i. step r (from_append (flat_map (elsewhere m t) (range_with_len 0 states)) i) }
@@ -120,7 +120,7 @@ module _ {B : Type 0} (m : Model B) (laws : Consequences m) where
           subst (λ (p : Row B). Sound n p) (sym b.2) (sound_box a.0 b.0 (sound_blank n t.state))
 
   -- rows that are rewritten stay sound
-  pub sound_moved : {n : ℕ} (s t : ℕ) (rows : List (Row B)) → Sound-rows n rows → Sound-rows n (moved m s t rows)
+  pub sound_moved : {n : ℕ} (s t : ℕ) (rows : List (Row B)) → SoundRows n rows → SoundRows n (moved m s t rows)
   unfolding moved
   sound_moved {n} s t rows k =
       record {

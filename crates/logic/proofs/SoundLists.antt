@@ -32,7 +32,7 @@ use Rattle.logic.proofs.Settling.{through_rounds}
 use Rattle.logic.proofs.Shown.{add_all_gathers}
 use Rattle.logic.proofs.Sound.{
   Sound,
-  Sound-rows,
+  SoundRows,
   sound_blank,
   sound_denial,
   sound_join,
@@ -45,7 +45,7 @@ use Rattle.logic.proofs.Thens.{ok_inj, then_parts}
 module _ {B : Type 0} (m : Model B) (laws : Consequences m) (limit : ℕ) {n : ℕ} where
   -- adding rows and pairing rows keep rows sound
   sound-added : (rows rs : List (Row B)) {all : List (Row B)} → add_all m limit rows rs ≡ Ok all
-      → Sound-rows m laws n rows → Sound-rows m laws n rs → Sound-rows m laws n all
+      → SoundRows m laws n rows → SoundRows m laws n rs → SoundRows m laws n all
   sound-added rows rs e a b =
       record {
         each = λ r i. elim ((add_all_gathers m laws limit rows rs e).from r i) [
@@ -54,8 +54,8 @@ module _ {B : Type 0} (m : Model B) (laws : Consequences m) (limit : ℕ) {n : �
         ];
       }
 
-  sound_paired : (ps qs : List (Row B)) {all : List (Row B)} → pairing m limit ps qs ≡ Ok all → Sound-rows m laws n ps
-      → Sound-rows m laws n qs → Sound-rows m laws n all
+  sound_paired : (ps qs : List (Row B)) {all : List (Row B)} → pairing m limit ps qs ≡ Ok all → SoundRows m laws n ps
+      → SoundRows m laws n qs → SoundRows m laws n all
   sound_paired ps qs e a b =
       record {
         each = λ r i.
@@ -66,7 +66,7 @@ module _ {B : Type 0} (m : Model B) (laws : Consequences m) (limit : ℕ) {n : �
   module _ (g : Graph) where
     -- `P`
     pub sound_predicate : (p : ℕ) (xs : List ℕ) {all : List (Row B)} → of_predicate m g limit p xs ≡ Ok all
-        → Sound-rows m laws n all
+        → SoundRows m laws n all
     unfolding of_predicate labelled
     sound_predicate p xs e =
         sound-added [] (labelled m g p xs) e (sound_none m laws)
@@ -82,27 +82,27 @@ module _ {B : Type 0} (m : Model B) (laws : Consequences m) (limit : ℕ) {n : �
 
     -- `&`
     pub sound_and : (ps qs : List (Row B)) {all : List (Row B)} → of_and m g limit ps qs ≡ Ok all
-        → Sound-rows m laws n ps → Sound-rows m laws n qs → Sound-rows m laws n all
+        → SoundRows m laws n ps → SoundRows m laws n qs → SoundRows m laws n all
     unfolding of_and
     sound_and ps qs e a b = sound_paired ps qs e a b
 
     -- `|`
     pub sound_or : (ps qs : List (Row B)) {all : List (Row B)} → of_or m g limit ps qs ≡ Ok all
-        → Sound-rows m laws n ps → Sound-rows m laws n qs → Sound-rows m laws n all
+        → SoundRows m laws n ps → SoundRows m laws n qs → SoundRows m laws n all
     unfolding of_or
     sound_or ps qs e a b = sound-added ps qs e a b
 
     -- denials in turn
     sound_denied : (rows ts : List (Row B)) {all : List (Row B)} → denied m g limit rows ts ≡ Ok all
-        → Sound-rows m laws n rows → Sound-rows m laws n all
-    sound_denied rows [] e s = subst (λ (z : List (Row B)). Sound-rows m laws n z) (ok_inj e) s
+        → SoundRows m laws n rows → SoundRows m laws n all
+    sound_denied rows [] e s = subst (λ (z : List (Row B)). SoundRows m laws n z) (ok_inj e) s
     sound_denied rows (t ∷ ts) e s =
         let a = then_parts (pairing m limit rows (denial m g.states t)) (λ left. denied m g limit left ts) e in
         sound_denied a.0 ts a.2
         (sound_paired rows (denial m g.states t) a.1 s (sound_denial m laws n g.states t))
 
     -- the blank rows of states
-    sound_blanks : (ss : List ℕ) → Sound-rows m laws n (map (blank m) ss)
+    sound_blanks : (ss : List ℕ) → SoundRows m laws n (map (blank m) ss)
     sound_blanks ss =
         record {
           each = λ r i.
@@ -111,7 +111,7 @@ module _ {B : Type 0} (m : Model B) (laws : Consequences m) (limit : ℕ) {n : �
         }
 
     -- `!`
-    pub sound_not : (ps : List (Row B)) {all : List (Row B)} → of_not m g limit ps ≡ Ok all → Sound-rows m laws n all
+    pub sound_not : (ps : List (Row B)) {all : List (Row B)} → of_not m g limit ps ≡ Ok all → SoundRows m laws n all
     unfolding of_not
     sound_not ps e =
         let a = then_parts (add_all m limit [] (map (blank m) (states m g))) (λ start. denied m g limit start ps) e in
@@ -120,7 +120,7 @@ module _ {B : Type 0} (m : Model B) (laws : Consequences m) (limit : ℕ) {n : �
 
     -- `N`
     pub sound_some_next : (ps : List (Row B)) {all : List (Row B)} → of_some_next m g limit ps ≡ Ok all
-        → Sound-rows m laws n ps → Sound-rows m laws n all
+        → SoundRows m laws n ps → SoundRows m laws n all
     unfolding of_some_next stepped
     sound_some_next ps e s =
         sound-added [] (stepped m g ps) e (sound_none m laws)
@@ -133,9 +133,9 @@ module _ {B : Type 0} (m : Model B) (laws : Consequences m) (limit : ℕ) {n : �
 
     -- pairing in turn with the rows at successors
     sound_in_turn : (u : ℕ) (ps rows : List (Row B)) (ts : List ℕ) {left : List (Row B)}
-        → in_turn m g limit u ps rows ts ≡ Ok left → Sound-rows m laws n ps → Sound-rows m laws n rows
-        → Sound-rows m laws n left
-    sound_in_turn u ps rows [] e s k = subst (λ (z : List (Row B)). Sound-rows m laws n z) (ok_inj e) k
+        → in_turn m g limit u ps rows ts ≡ Ok left → SoundRows m laws n ps → SoundRows m laws n rows
+        → SoundRows m laws n left
+    sound_in_turn u ps rows [] e s k = subst (λ (z : List (Row B)). SoundRows m laws n z) (ok_inj e) k
     sound_in_turn u ps rows (t ∷ ts) e s k =
         let a = then_parts (pairing m limit rows (moved m u t ps)) (λ left. in_turn m g limit u ps left ts) e in
         sound_in_turn u ps a.0 ts a.2 s
@@ -143,9 +143,9 @@ module _ {B : Type 0} (m : Model B) (laws : Consequences m) (limit : ℕ) {n : �
 
     -- state by state
     sound_all_from : (ps rows : List (Row B)) (ss : List ℕ) {all : List (Row B)}
-        → all_next_from m g limit ps rows ss ≡ Ok all → Sound-rows m laws n ps → Sound-rows m laws n rows
-        → Sound-rows m laws n all
-    sound_all_from ps rows [] e s k = subst (λ (z : List (Row B)). Sound-rows m laws n z) (ok_inj e) k
+        → all_next_from m g limit ps rows ss ≡ Ok all → SoundRows m laws n ps → SoundRows m laws n rows
+        → SoundRows m laws n all
+    sound_all_from ps rows [] e s k = subst (λ (z : List (Row B)). SoundRows m laws n z) (ok_inj e) k
     sound_all_from ps rows (u ∷ ss) e s k =
         let a = then_parts (in_turn m g limit u ps (blank m u ∷ []) (successors g u)) _ e in
         let b = then_parts (add_all m limit rows a.0) (λ more. all_next_from m g limit ps more ss) a.2 in
@@ -154,17 +154,17 @@ module _ {B : Type 0} (m : Model B) (laws : Consequences m) (limit : ℕ) {n : �
 
     -- `X`
     pub sound_all_next : (ps : List (Row B)) {all : List (Row B)} → of_all_next m g limit ps ≡ Ok all
-        → Sound-rows m laws n ps → Sound-rows m laws n all
+        → SoundRows m laws n ps → SoundRows m laws n all
     unfolding of_all_next
     sound_all_next ps e s = sound_all_from ps [] (states m g) e s (sound_none m laws)
 
   -- an until keeps rows sound where its step does
   pub sound_rounds : (step : List (Row B) → Outcome (List (Row B)))
-      → ((rows next : List (Row B)) → step rows ≡ Ok next → Sound-rows m laws n rows → Sound-rows m laws n next)
+      → ((rows next : List (Row B)) → step rows ≡ Ok next → SoundRows m laws n rows → SoundRows m laws n next)
       → (ps : List (Row B)) {rows : List (Row B)} {z : Settled B} → Rounds (round m limit step ps) rows (Ok z)
-      → Sound-rows m laws n ps → Sound-rows m laws n rows → Sound-rows m laws n z.rows
+      → SoundRows m laws n ps → SoundRows m laws n rows → SoundRows m laws n z.rows
   sound_rounds step keeps ps r a =
-      through_rounds m laws limit step ps (λ x y k. Sound-rows m laws n x → Sound-rows m laws n y) (λ x t s. s)
+      through_rounds m laws limit step ps (λ x y k. SoundRows m laws n x → SoundRows m laws n y) (λ x t s. s)
       (λ x y end k t rest s. rest (record {
         each = λ q i. elim (t.gathers.from q i) [
           | inl j ↦ s.each q j

@@ -8,7 +8,7 @@ use Rattle.kinds.specs.Consequences.{Consequences}
 use Rattle.kinds.specs.Model.{Model}
 use Rattle.rows.specs.declared.row.Row.{Row}
 use Rattle.rows.specs.declared.witness.Witness.{Witness}
-use Rattle.logic.specs.Formulas as formula-of
+use Rattle.logic.specs.Formulas as formula_of
 use Rattle.logic.specs.Formulas.{Formula, earlier, formula, read, read_on}
 use Rattle.logic.specs.Outcomes.{Outcome}
 use Rattle.logic.specs.Promises.{NameableLabels}
@@ -47,16 +47,16 @@ module _ {B : Type 0} (m : Model B) (laws : Consequences m) (g : Graph) (limit :
   ReadyIn w ws φ rows = Ready m laws g limit nameable ws (length w.witnesses) φ rows
 
   -- how far a check has come: each wanted line so far has its list
-  record So-far (w : Work B) (fs : List Formula) (ws : List (Witness B)) : Type 1 where
+  record SoFar (w : Work B) (fs : List Formula) (ws : List (Witness B)) : Type 1 where
     count : length w.lists ≡ length fs
     ready : (a : ℕ) → a < length fs → wanted a ≡ true → ReadyIn w ws (earlier fs a) (list w a)
     grounded : Grounded m w.witnesses
 
   -- one line more, whose list is ready if it is wanted
   so_far_more : (w next : Work B) (fs : List Formula) (φ : Formula) (ws : List (Witness B)) (rows : List (Row B))
-      → So-far w fs ws → next.lists ≡ w.lists ++ rows ∷ [] → Extends w.witnesses next.witnesses
+      → SoFar w fs ws → next.lists ≡ w.lists ++ rows ∷ [] → Extends w.witnesses next.witnesses
       → Grounded m next.witnesses → (wanted (length fs) ≡ true → ReadyIn next ws φ rows)
-      → So-far next (fs ++ φ ∷ []) ws
+      → SoFar next (fs ++ φ ∷ []) ws
   so_far_more w next fs φ ws rows so lists extends grounded own =
       let sums = length-append w.lists (rows ∷ []) in
       let sums' = length-append fs (φ ∷ []) in
@@ -77,11 +77,11 @@ module _ {B : Type 0} (m : Model B) (laws : Consequences m) (g : Graph) (limit :
       step : (a : ℕ) → a < length (fs ++ φ ∷ []) → wanted a ≡ true → Dec (a ≡ length fs)
           → ReadyIn next ws (earlier (fs ++ φ ∷ []) a) (list next a)
       step a l t (yes e) =
-          let φ-at : earlier (fs ++ φ ∷ []) a ≡ φ = get_or_push fs φ (formula-of.predicate 0 []) a (sym e) in
+          let φ_at : earlier (fs ++ φ ∷ []) a ≡ φ = get_or_push fs φ (formula_of.predicate 0 []) a (sym e) in
           let rows_at : list next a ≡ rows =
           ap (λ (z : List (List (Row B))). get_or z a []) lists
           ∙ get_or_push w.lists rows [] a (so.count ∙ sym e) in
-          subst (λ (ψ : Formula). ReadyIn next ws ψ (list next a)) (sym φ-at)
+          subst (λ (ψ : Formula). ReadyIn next ws ψ (list next a)) (sym φ_at)
           (subst (λ (z : List (Row B)). ReadyIn next ws φ z) (sym rows_at)
           (own (ap wanted (sym e) ∙ t)))
       step a l t (no d) =
@@ -89,21 +89,21 @@ module _ {B : Type 0} (m : Model B) (laws : Consequences m) (g : Graph) (limit :
           let k : a < length fs = omega arith in
           let count = so.count in
           let k' : a < length w.lists = omega arith in
-          let φ-at = get_or_append_left fs (φ ∷ []) (formula-of.predicate 0 []) a k in
+          let φ_at = get_or_append_left fs (φ ∷ []) (formula_of.predicate 0 []) a k in
           let rows_at : list next a ≡ list w a =
           ap (λ (z : List (List (Row B))). get_or z a []) lists
           ∙ get_or_append_left w.lists (rows ∷ []) [] a k' in
           let old = so.ready a k t in
-          subst (λ (ψ : Formula). ReadyIn next ws ψ (list next a)) (sym φ-at)
+          subst (λ (ψ : Formula). ReadyIn next ws ψ (list next a)) (sym φ_at)
           (subst (λ (z : List (Row B)). ReadyIn next ws (earlier fs a) z) (sym rows_at)
           (record { is_right = old.is_right; is_sound = sound_more m laws grown old.is_sound }))
 
   -- all lines worked
   so_far_all : {w : Work B} {ls : List Line} {out : Outcome (Work B)} → WorksAll m g limit wanted w ls out
-      → (end : Work B) → out ≡ Ok end → (fs : List Formula) → So-far w fs end.witnesses
-      → Wanting wanted (length fs) ls → So-far end (read_on fs ls) end.witnesses
+      → (end : Work B) → out ≡ Ok end → (fs : List Formula) → SoFar w fs end.witnesses
+      → Wanting wanted (length fs) ls → SoFar end (read_on fs ls) end.witnesses
   so_far_all (done {w = w}) end e fs so wants =
-      subst (λ (z : Work B). So-far z fs end.witnesses) (ok_inj e) so
+      subst (λ (z : Work B). SoFar z fs end.witnesses) (ok_inj e) so
   so_far_all (passed {w = w} {l = l} {ls = ls} n rest) end e fs so wants =
       let sum = length-append fs (read fs l ∷ []) in
       let at : suc (length fs) ≡ length (fs ++ read fs l ∷ []) = omega arith in
@@ -137,11 +137,11 @@ module _ {B : Type 0} (m : Model B) (laws : Consequences m) (g : Graph) (limit :
   module _ (asked : ℕ) (small : asked < length ls) {a : Answer B} (checks : Checks m g limit ls asked (Ok a)) where
     -- the whole check, seen from its end
     whole : (end : Work B) × (a ≡ answered m g limit asked end)
-        × So-far m laws g limit nameable (reached ls asked) end (read_on [] ls) end.witnesses
+        × SoFar m laws g limit nameable (reached ls asked) end (read_on [] ls) end.witnesses
     whole =
         let b = then_made checks.end (answered m g limit asked) checks.comes_to in
         let end = b.0 in
-        let start : So-far m laws g limit nameable (reached ls asked) nothing_worked [] end.witnesses =
+        let start : SoFar m laws g limit nameable (reached ls asked) nothing_worked [] end.witnesses =
         record { count = refl; ready = λ i l. absurd (omega arith); grounded = grounded_none m laws } in
         let wants = wanting_from ls ordered asked 0 ls (λ k. ap (line_at ls) (sym (zero-add k)))
         (omega (arith, zero-add (length ls))) in (

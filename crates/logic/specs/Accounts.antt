@@ -4,7 +4,7 @@ use Rattle.flow.specs.Graph.{Graph, successors}
 use Rattle.kinds.specs.Consequences.{Value}
 use Rattle.kinds.specs.Member.{◌∈◌, here, there}
 use Rattle.kinds.specs.Model.{Model}
-use Rattle.logic.specs.Formulas.{Formula, predicate, and, or, not, exists, all-next, some_next, all-until, some-until}
+use Rattle.logic.specs.Formulas.{Formula, predicate, and, or, not, exists, all_next, some_next, all_until, some_until}
 use Rattle.logic.specs.Satisfied.{Satisfies}
 use Rattle.logic.specs.Trees.{Trees, bare, tree, ◌∪◌, Match}
 use Rattle.logic.specs.Valuations.{Valuation, put}
@@ -60,7 +60,7 @@ module _ {B : Type 0} (m : Model B) (g : Graph) where
   Accounts (or a b) v s acc = Accounts a v s acc ⊎ Accounts b v s acc
   Accounts (exists x a) v s acc =
       (n : ℕ) × (inner : Account) × Value m n × Accounts a (put v x n) s inner × (acc ≋ tree s x n inner bare)
-  Accounts (all-next a) v s acc = of_each_next g (Accounts a v) s acc
+  Accounts (all_next a) v s acc = of_each_next g (Accounts a v) s acc
   Accounts (some_next a) v s acc = of_some_next g (Accounts a v) s acc
-  Accounts (all-until a b) v s acc = of_until (of_each_next g) (Accounts a v) (Accounts b v) s acc
-  Accounts (some-until a b) v s acc = of_until (of_some_next g) (Accounts a v) (Accounts b v) s acc
+  Accounts (all_until a b) v s acc = of_until (of_each_next g) (Accounts a v) (Accounts b v) s acc
+  Accounts (some_until a b) v s acc = of_until (of_some_next g) (Accounts a v) (Accounts b v) s acc

@@ -10,9 +10,9 @@ pub data Formula : Type 0 where
   not : Formula → Formula
   -- a variable, and what holds for some value of it
   exists : ℕ → Formula → Formula
-  all-next some_next : Formula → Formula
+  all_next some_next : Formula → Formula
   -- what holds until then, and what holds then
-  all-until some-until : Formula → Formula → Formula
+  all_until some_until : Formula → Formula → Formula
 
 -- the formula of an earlier line, where those before stand for fs (an unknown line is a predicate that nothing asks of)
 abbrev pub earlier : List Formula → ℕ → Formula
@@ -25,10 +25,10 @@ read fs (line.and a b) = and (earlier fs a) (earlier fs b)
 read fs (line.or a b) = or (earlier fs a) (earlier fs b)
 read fs (line.not a) = not (earlier fs a)
 read fs (line.exists x a) = exists x (earlier fs a)
-read fs (line.all-next a) = all-next (earlier fs a)
+read fs (line.all_next a) = all_next (earlier fs a)
 read fs (line.some_next a) = some_next (earlier fs a)
-read fs (line.all-until a b) = all-until (earlier fs a) (earlier fs b)
-read fs (line.some-until a b) = some-until (earlier fs a) (earlier fs b)
+read fs (line.all_until a b) = all_until (earlier fs a) (earlier fs b)
+read fs (line.some_until a b) = some_until (earlier fs a) (earlier fs b)
 
 -- the formulas of lines that come after those that stand for fs
 abbrev pub read_on : List Formula → List Line → List Formula

@@ -1,6 +1,6 @@
 -- The lines that a line reaches: itself, and the operands of each line that it reaches; by relation, and by marks.
 use Rattle.std.specs.Prelude.{ℕ, zero, suc, Bool, true, false, ◌||◌, List, [], ◌∷◌, nat_eq, slice_index_or}
-use Rattle.flow.specs.Line.{Line, predicate, and, or, not, exists, all-next, some_next, all-until, some-until}
+use Rattle.flow.specs.Line.{Line, predicate, and, or, not, exists, all_next, some_next, all_until, some_until}
 use Rattle.flow.specs.Tests.{any}
 use Rattle.kinds.specs.Member.{◌∈◌}
 
@@ -11,10 +11,10 @@ operands (and a b) = a ∷ b ∷ []
 operands (or a b) = a ∷ b ∷ []
 operands (not a) = a ∷ []
 operands (exists x a) = a ∷ []
-operands (all-next a) = a ∷ []
+operands (all_next a) = a ∷ []
 operands (some_next a) = a ∷ []
-operands (all-until a b) = a ∷ b ∷ []
-operands (some-until a b) = a ∷ b ∷ []
+operands (all_until a b) = a ∷ b ∷ []
+operands (some_until a b) = a ∷ b ∷ []
 
 abbrev pub line_at : List Line → ℕ → Line
 line_at ls i = slice_index_or ls i (predicate 0 [])

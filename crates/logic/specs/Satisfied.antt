@@ -4,7 +4,7 @@ use Rattle.flow.specs.Graph.{Graph, Label, successors}
 use Rattle.kinds.specs.Consequences.{Value}
 use Rattle.kinds.specs.Member.{◌∈◌}
 use Rattle.kinds.specs.Model.{Model}
-use Rattle.logic.specs.Formulas.{Formula, predicate, and, or, not, exists, all-next, some_next, all-until, some-until}
+use Rattle.logic.specs.Formulas.{Formula, predicate, and, or, not, exists, all_next, some_next, all_until, some_until}
 use Rattle.logic.specs.Paths.{Endless, Meets}
 use Rattle.logic.specs.Valuations.{Valuation, put}
 
@@ -23,9 +23,9 @@ module _ {B : Type 0} (m : Model B) (g : Graph) where
   Satisfies (or a b) s v = Satisfies a s v ⊎ Satisfies b s v
   Satisfies (not a) s v = Satisfies a s v → ⊥
   Satisfies (exists x a) s v = (n : ℕ) × Value m n × Satisfies a s (put v x n)
-  Satisfies (all-next a) s v = (t : ℕ) → t ∈ successors g s → Satisfies a t v
+  Satisfies (all_next a) s v = (t : ℕ) → t ∈ successors g s → Satisfies a t v
   Satisfies (some_next a) s v = (t : ℕ) × (t ∈ successors g s) × Satisfies a t v
-  Satisfies (all-until a b) s v =
+  Satisfies (all_until a b) s v =
       (path : ℕ → ℕ) → Endless g s path → Meets (λ t. Satisfies a t v) (λ t. Satisfies b t v) path
-  Satisfies (some-until a b) s v =
+  Satisfies (some_until a b) s v =
       (path : ℕ → ℕ) × Endless g s path × Meets (λ t. Satisfies a t v) (λ t. Satisfies b t v) path

@@ -19,7 +19,7 @@ use Rattle.logic.specs.Outcomes.{Outcome}
 use Rattle.logic.specs.Shortages.{number}
 use Rattle.logic.specs.Working.{Answer, Checks}
 use Rattle.logic.specs.declared.shortage.Shortage.TheVariants.{Rows}
-use Rattle.std.specs.List.{AllByRecursion as All}
+use Rattle.std.specs.List.{AllByRecursion}
 
 -- the lists agree, place by place
 abbrev pub agree : {A : Type 0} → (A → A → Bool) → List A → List A → Bool
@@ -187,4 +187,4 @@ trials =
 
 -- every trial passes
 abbrev pub TrialsPass : Type 0
-TrialsPass = All Passes trials
+TrialsPass = AllByRecursion Passes trials

@@ -1,7 +1,7 @@
 -- A whole check worked out: the lines that the asked line reaches, ascending, each once.
 use Rattle.std.specs.Prelude.{◌≡◌, ℕ, ◌+◌, Bool, true, false, List, [], ◌∷◌, ◌++◌, length, Ok, Err, slice_index_or}
 use Rattle.flow.specs.Graph.{Graph}
-use Rattle.flow.specs.Line.{Line, predicate, and, or, not, exists, all-next, some_next, all-until, some-until}
+use Rattle.flow.specs.Line.{Line, predicate, and, or, not, exists, all_next, some_next, all_until, some_until}
 use Rattle.kinds.specs.Model.{Model}
 use Rattle.rows.specs.declared.row.Row.{Row}
 use Rattle.rows.specs.declared.witness.Witness.{Witness}
@@ -63,10 +63,10 @@ module _ {B : Type 0} (m : Model B) (g : Graph) (limit : ℕ) where
   Works w (not a) out = out ≡ plain w (of_not m g limit (list w a))
   Works w (exists x a) out =
       out ≡ then (of_exists m limit x w.witnesses (list w a)) (λ q. Ok (with_witnesses w q))
-  Works w (all-next a) out = out ≡ plain w (of_all_next m g limit (list w a))
+  Works w (all_next a) out = out ≡ plain w (of_all_next m g limit (list w a))
   Works w (some_next a) out = out ≡ plain w (of_some_next m g limit (list w a))
-  Works w (all-until a b) out = Settles (of_all_next m g limit) w a b out
-  Works w (some-until a b) out = Settles (of_some_next m g limit) w a b out
+  Works w (all_until a b) out = Settles (of_all_next m g limit) w a b out
+  Works w (some_until a b) out = Settles (of_some_next m g limit) w a b out
 
   -- what working all lines comes to; a line that is not wanted has no rows
   pub data WorksAll (wanted : ℕ → Bool) : Work B → List Line → Outcome (Work B) → Type 0 where

@@ -1,7 +1,7 @@
 // `P`: the rows of labels.
 ghost use Rattle.std.specs.Prelude.{◌≡◌, ◌<◌, true, Some as There, nat_lt};
 ghost use Rattle.flow.specs.Cases.{graph_in};
-ghost use Rattle.flow.specs.Limits.{variables as variable-count};
+ghost use Rattle.flow.specs.Limits.{variables as variable_count};
 ghost use Rattle.flow.specs.Tests.{every};
 ghost use Rattle.lists.specs.Counts.{list_count};
 ghost use Rattle.lists.specs.Lent.{Lent, table_in};
@@ -18,7 +18,7 @@ use rows::row::Row;
 
 // The row with the box of a variable met with the box of a value, or none where these do not meet.
 fn narrowed<K: Kind>(row: &Row<K::Box>, variable: u32, value: u32) -> Option<Row<K::Box>>
-    requires { variable < variable-count }
+    requires { variable < variable_count }
     ensures { let held = row.now in
         result ≡ narrower K.model held variable (met_with K.model (box_of K.model held variable) (K.model.one value)) }
 {
@@ -37,7 +37,7 @@ fn narrowed<K: Kind>(row: &Row<K::Box>, variable: u32, value: u32) -> Option<Row
 // The row with the box of each variable met with that of its value, in order; none where a meet is none or the counts
 // differ.
 fn named_row<K: Kind>(start: &Row<K::Box>, variables: &[u32], values: &[u32]) -> Option<Row<K::Box>>
-    requires { every (λ x. nat_lt x variable-count) variables.now ≡ true }
+    requires { every (λ x. nat_lt x variable_count) variables.now ≡ true }
     ensures { result ≡ naming K.model (There start.now) variables.now values.now }
 {
     if variables.len() != values.len() {
@@ -65,7 +65,7 @@ fn state_labels<K: Kind>(
 ) -> Result<(), Shortage>
     requires lent { Lent lists.old rows.old }
     requires known { dest < list_count }
-    requires small { every (λ x. nat_lt x variable-count) variables.now ≡ true }
+    requires small { every (λ x. nat_lt x variable_count) variables.now ≡ true }
     ensures { let graph = graph_in case.now in
         left_by result (table_in lists.new rows.new)
         ≡ adding K.model (table_in lists.old rows.old) dest
@@ -94,7 +94,7 @@ pub fn predicate<K: Kind>(
 ) -> Result<(), Shortage>
     requires lent { Lent lists.old rows.old }
     requires known { dest < list_count }
-    requires small { every (λ x. nat_lt x variable-count) variables.now ≡ true }
+    requires small { every (λ x. nat_lt x variable_count) variables.now ≡ true }
     ensures { let table = table_in lists.old rows.old in
         left_by result (table_in lists.new rows.new)
         ≡ adding K.model table dest (labelled K.model (graph_in case.now) predicate variables.now) }

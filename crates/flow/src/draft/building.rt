@@ -1,6 +1,6 @@
 // The calls that draw. A refused call leaves the draft as it was.
 ghost use Rattle.std.specs.Prelude.{◌≡◌};
-ghost use Rattle.flow.specs.Build.{edge as an-edge, label as a-label, state as a-state};
+ghost use Rattle.flow.specs.Build.{edge as an_edge, label as a_label, state as a_state};
 ghost use Rattle.flow.specs.Drafts.{drawn_in};
 ghost use Rattle.flow.specs.Drawn.{after, answer};
 ghost use Rattle.flow.specs.Graph.{nothing_drawn};
@@ -32,8 +32,8 @@ impl Draft {
 
     /// Adds the next state and answers its number, from 0. Refused where there are as many as there may be.
     pub fn state(&mut self) -> Result<u32, Refusal>
-        ensures answers { let g = drawn_in self.old in result ≡ answer g a-state g.states }
-        ensures leaves { drawn_in self.new ≡ after (drawn_in self.old) a-state }
+        ensures answers { let g = drawn_in self.old in result ≡ answer g a_state g.states }
+        ensures leaves { drawn_in self.new ≡ after (drawn_in self.old) a_state }
     {
         if let Some(refusal) = self.state_refusal() {
             return Err(refusal);
@@ -45,8 +45,8 @@ impl Draft {
 
     /// Joins two states. Refused where one is unknown, where the edge is there, or where the table is full.
     pub fn edge(&mut self, from: u32, to: u32) -> Result<(), Refusal>
-        ensures answers { result ≡ answer (drawn_in self.old) (an-edge from to) tt }
-        ensures leaves { drawn_in self.new ≡ after (drawn_in self.old) (an-edge from to) }
+        ensures answers { result ≡ answer (drawn_in self.old) (an_edge from to) tt }
+        ensures leaves { drawn_in self.new ≡ after (drawn_in self.old) (an_edge from to) }
     {
         if let Some(refusal) = self.edge_refusal(from, to) {
             return Err(refusal);
@@ -58,9 +58,9 @@ impl Draft {
     /// Puts a predicate with its values on a state. Refused where the state is unknown, where the predicate or the
     /// count of values is too large, where the state has this very label, or where the table is full.
     pub fn label(&mut self, state: u32, predicate: u32, values: &[u32]) -> Result<(), Refusal>
-        ensures answers { let call = a-label state predicate values.now in
+        ensures answers { let call = a_label state predicate values.now in
             result ≡ answer (drawn_in self.old) call tt }
-        ensures leaves { let call = a-label state predicate values.now in
+        ensures leaves { let call = a_label state predicate values.now in
             drawn_in self.new ≡ after (drawn_in self.old) call }
     {
         if let Some(refusal) = self.label_refusal(state, predicate, values) {

@@ -1,6 +1,6 @@
 // Whether a call is refused: the tests stand in the order in which the refusals are given.
 ghost use Rattle.std.specs.Prelude.{◌≡◌};
-ghost use Rattle.flow.specs.Build.{edge as an-edge, label as a-label, state as a-state};
+ghost use Rattle.flow.specs.Build.{edge as an_edge, label as a_label, state as a_state};
 ghost use Rattle.flow.specs.Drafts.{drawn_in};
 ghost use Rattle.flow.specs.Drawn.{refusal};
 
@@ -11,7 +11,7 @@ use crate::refusal::Refusal;
 
 impl Draft {
     pub(super) fn state_refusal(&self) -> Option<Refusal>
-        ensures { result ≡ refusal (drawn_in self.now) a-state }
+        ensures { result ≡ refusal (drawn_in self.now) a_state }
     {
         if self.states >= MOST_STATES {
             return Some(Refusal::TooManyStates);
@@ -20,7 +20,7 @@ impl Draft {
     }
 
     pub(super) fn edge_refusal(&self, from: u32, to: u32) -> Option<Refusal>
-        ensures { result ≡ refusal (drawn_in self.now) (an-edge from to) }
+        ensures { result ≡ refusal (drawn_in self.now) (an_edge from to) }
     {
         if from >= self.states || to >= self.states {
             return Some(Refusal::UnknownState);
@@ -40,7 +40,7 @@ impl Draft {
         predicate: u32,
         values: &[u32],
     ) -> Option<Refusal>
-        ensures { result ≡ refusal (drawn_in self.now) (a-label state predicate values.now) }
+        ensures { result ≡ refusal (drawn_in self.now) (a_label state predicate values.now) }
     {
         if state >= self.states {
             return Some(Refusal::UnknownState);

@@ -46,7 +46,7 @@ impl Lists {
     ) -> Result<(), Shortage>
         requires lent { Lent self.old rows.old }
         requires known { (first < list_count) × ((second < list_count) × (dest < list_count)) }
-        requires apart { ((first ≢ dest)) × ((second ≢ dest)) }
+        requires apart { (first ≢ dest) × (second ≢ dest) }
         ensures { let table = table_in self.old rows.old in
             left_by result (table_in self.new rows.new)
             ≡ adding K.model table dest (pairs K.model (at table first) (at table second)) }

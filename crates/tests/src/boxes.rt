@@ -38,7 +38,7 @@ fn gives<K: PrintingKind>(
 }
 
 // The box of one number.
-pub fn one<K: Kind>(n: u32) -> Result<K::Box, Fail> {
+pub(crate) fn one<K: Kind>(n: u32) -> Result<K::Box, Fail> {
     match K::one(n) {
         Some(b) => Ok(b),
         None => Err(Fail::new("not nameable")),
@@ -46,7 +46,7 @@ pub fn one<K: Kind>(n: u32) -> Result<K::Box, Fail> {
 }
 
 // All values but one number.
-pub fn but<K: Kind>(n: u32) -> Result<K::Box, Fail> {
+pub(crate) fn but<K: Kind>(n: u32) -> Result<K::Box, Fail> {
     match K::piece(&one::<K>(n)?, 0) {
         Some(b) => Ok(b),
         None => Err(Fail::new("no piece")),

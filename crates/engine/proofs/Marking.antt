@@ -6,7 +6,7 @@ use Rattle.flow.specs.Limits.{most_lines}
 use Rattle.flow.specs.Held.{line_of}
 use Rattle.flow.specs.Line.{Line, predicate}
 use Rattle.flow.specs.declared.line.Line as written
-use Rattle.flow.specs.Tests.{every}
+use Rattle.std.specs.List.{list_all}
 use Rattle.kinds.specs.Member.{◌∈◌, here, there}
 use Rattle.logic.proofs.Reaching.{earlier_named}
 use Rattle.logic.specs.Reached.{line_at, marked_below, marking, operands}
@@ -53,9 +53,9 @@ mark_two ms a b l k =
 
 -- the operands of a line marked, where they are two
 pub mark_operands : (ms : List Bool) (os : List ℕ) (a b : ℕ) → length ms ≡ most_lines → os ≡ a ∷ b ∷ []
-    → every (λ x. ltb x most_lines) os ≡ true → marked (set (set ms a true) b true) ≡ marking true os (marked ms)
+    → list_all (λ x. ltb x most_lines) os ≡ true → marked (set (set ms a true) b true) ≡ marking true os (marked ms)
 mark_operands ms os a b size two small =
-    let h = and_parts (ltb a most_lines) _ (ap (every (λ x. ltb x most_lines)) (sym two) ∙ small) in
+    let h = and_parts (ltb a most_lines) _ (ap (list_all (λ x. ltb x most_lines)) (sym two) ∙ small) in
     let k = and_parts (ltb b most_lines) true h.1 in
     let l = ltb-true a most_lines h.0 in
     let r = ltb-true b most_lines k.0 in
@@ -63,14 +63,14 @@ mark_operands ms os a b size two small =
 
 module _ (ls : List Line) (ordered : Ordered ls) where
   -- the operands of a line of the sheet are lines of the sheet
-  pub operands_small : (i : ℕ) → i < most_lines → every (λ x. ltb x most_lines) (operands (line_at ls i)) ≡ true
+  pub operands_small : (i : ℕ) → i < most_lines → list_all (λ x. ltb x most_lines) (operands (line_at ls i)) ≡ true
   operands_small i l = go (operands (line_at ls i)) (λ a j. earlier_named ls ordered i a j)
     where
-      go : (os : List ℕ) → ((a : ℕ) → a ∈ os → a < i) → every (λ x. ltb x most_lines) os ≡ true
+      go : (os : List ℕ) → ((a : ℕ) → a ∈ os → a < i) → list_all (λ x. ltb x most_lines) os ≡ true
       go [] below = refl
       go (a ∷ os) below =
           let k = below a (here refl) in
-          ap (λ b. b && every (λ x. ltb x most_lines) os) (lt-ltb a most_lines (omega arith))
+          ap (λ b. b && list_all (λ x. ltb x most_lines) os) (lt-ltb a most_lines (omega arith))
           ∙ go os (λ x j. below x (there j))
 
   -- one line more is marked from, or is not marked

@@ -1,6 +1,6 @@
 -- The row of a label, variable by variable.
 use Rattle.std.proofs.Common.{◌≡◌, ℕ, zero, suc, ◌+◌, ◌<◌, ◌≤◌, Bool, true, List, [], ◌∷◌, length, get_or, drop, Some, None, Option, refl, arith}
-use Rattle.flow.specs.Tests.{every}
+use Rattle.std.specs.List.{list_all}
 use Rattle.kinds.specs.Model.{Model}
 use Rattle.logic.specs.Operators.{met_with, naming, narrowed}
 use Rattle.rows.specs.Rows.{box}
@@ -9,10 +9,10 @@ use Rattle.std.proofs.lemmas.List.{drop_all, drop_more}
 use Rattle.std.proofs.lemmas.Bool.{and_parts}
 
 -- where every element passes, the one at a place does
-pub every_at : (p : ℕ → Bool) (xs : List ℕ) (i d : ℕ) → every p xs ≡ true → i < length xs → p (get_or xs i d) ≡ true
+pub every_at : (p : ℕ → Bool) (xs : List ℕ) (i d : ℕ) → list_all p xs ≡ true → i < length xs → p (get_or xs i d) ≡ true
 every_at p [] i d e l = absurd (omega arith)
-every_at p (x ∷ xs) zero d e l = (and_parts (p x) (every p xs) e).0
-every_at p (x ∷ xs) (suc i) d e l = every_at p xs i d (and_parts (p x) (every p xs) e).1 (omega arith)
+every_at p (x ∷ xs) zero d e l = (and_parts (p x) (list_all p xs) e).0
+every_at p (x ∷ xs) (suc i) d e l = every_at p xs i d (and_parts (p x) (list_all p xs) e).1 (omega arith)
 
 module _ {B : Type 0} (m : Model B) where
   -- where counts differ, no row is named

@@ -1,14 +1,14 @@
 // Whether a kind takes every number of a case's labels.
 ghost use Rattle.std.specs.Prelude.{◌≡◌, map};
 ghost use Rattle.flow.specs.Held.{label_of};
-ghost use Rattle.flow.specs.Tests.{every};
+ghost use Rattle.std.specs.List.{list_all};
 
 use flow::label::Label;
 use kinds::kind::Kind;
 
 // Whether every number is nameable.
 fn all_taken<K: Kind>(numbers: &[u32]) -> bool
-    ensures { result ≡ every K.model.nameable numbers.now }
+    ensures { result ≡ list_all K.model.nameable numbers.now }
 {
     for n in numbers {
         if !K::takes(*n) {
@@ -20,7 +20,7 @@ fn all_taken<K: Kind>(numbers: &[u32]) -> bool
 
 /// Whether every number that stands in a label is nameable.
 pub fn labels_nameable<K: Kind>(labels: &[Label]) -> bool
-    ensures { result ≡ every (λ l. every K.model.nameable l.values) (map label_of labels.now) }
+    ensures { result ≡ list_all (λ l. list_all K.model.nameable l.values) (map label_of labels.now) }
 {
     for label in labels {
         if !all_taken::<K>(label.values.as_slice()) {

@@ -3,7 +3,7 @@ ghost use Rattle.std.specs.Prelude.{◌≡◌, ◌<◌, ◌≤◌, true, map, le
 ghost use Rattle.flow.specs.Facts.{Ordered};
 ghost use Rattle.flow.specs.Held.{line_of};
 ghost use Rattle.flow.specs.Limits.{most_lines};
-ghost use Rattle.flow.specs.Tests.{every};
+ghost use Rattle.std.specs.List.{list_all};
 ghost use Rattle.logic.specs.Reached.{marking, operands, reached as is_reached};
 ghost use Rattle.engine.specs.Marks.{marked};
 
@@ -12,7 +12,7 @@ use flow::line::Line;
 
 // Marks the lines that a line names.
 fn mark_named(line: &Line, marks: &mut [bool; MOST_LINES])
-    requires { every (λ a. nat_lt a most_lines) (operands (line_of line.now)) ≡ true }
+    requires { list_all (λ a. nat_lt a most_lines) (operands (line_of line.now)) ≡ true }
     ensures { marked marks.new
         ≡ marking true (operands (line_of line.now)) (marked marks.old) }
 {

@@ -9,7 +9,6 @@ use Rattle.flow.specs.Limits.{most_states}
 use Rattle.flow.specs.Line.{Line}
 use Rattle.flow.specs.Sheet.{entered, entered_on, entry, right, sheet}
 use Rattle.flow.specs.Sound.{bounded, each_below, inside, joined_up, leading, proper, right_from, sound, sound_closed, sound_sheet}
-use Rattle.flow.specs.Tests.{every}
 use Rattle.flow.specs.declared.edge.Edge.{Edge}
 use Rattle.flow.specs.declared.refusal.Refusal.{Refusal}
 use Rattle.flow.proofs.Entering.{entry-right, sound_push}
@@ -18,14 +17,14 @@ use Rattle.flow.proofs.Refusing.{after_accepted, after_refused}
 use Rattle.flow.proofs.Soundness.{sound-added}
 use Rattle.std.proofs.lemmas.Bool.{and_parts, cases_lt, cond_both, false≢true, leb-true, ltb-true}
 use Rattle.std.proofs.lemmas.Bool.Decides.{nat_tests}
-use Rattle.std.specs.List.{AllByRecursion}
+use Rattle.std.specs.List.{AllByRecursion, list_all}
 
 -- a test that each element passes, as a fact of each
 all_from_every : {A : Type 0} (p : A → Bool) (P : A → Type 0) → ((x : A) → p x ≡ true → P x) → (xs : List A)
-    → every p xs ≡ true → AllByRecursion P xs
+    → list_all p xs ≡ true → AllByRecursion P xs
 all_from_every p P f [] e = tt
 all_from_every p P f (x ∷ xs) e =
-    let h = and_parts (p x) (every p xs) e in
+    let h = and_parts (p x) (list_all p xs) e in
     (f x h.0, all_from_every p P f xs h.1)
 
 below_each : (p : ℕ → Bool) (n k : ℕ) → each_below p n ≡ true → k < n → p k ≡ true
@@ -45,10 +44,10 @@ leads_from_leaves (x ∷ es) s e =
     (λ f. leads_from_leaves es s (ap (λ t. t || leaves es s) (sym f) ∙ e))
 
 -- where edges join states, successors are states
-stays_from_inside : (n : ℕ) (es : List Edge) (s : ℕ) → every (inside n) es ≡ true → AllByRecursion (λ t. t < n) (ends es s)
+stays_from_inside : (n : ℕ) (es : List Edge) (s : ℕ) → list_all (inside n) es ≡ true → AllByRecursion (λ t. t < n) (ends es s)
 stays_from_inside n [] s e = tt
 stays_from_inside n (x ∷ es) s e =
-    let h = and_parts (inside n x) (every (inside n) es) e in
+    let h = and_parts (inside n x) (list_all (inside n) es) e in
     let rest = stays_from_inside n es s h.1 in
     let first = ltb-true x.to n (and_parts (ltb x.from n) (ltb x.to n) h.0).1 in
     cond_both (eqb x.from s) (x.to ∷ ends es s) (ends es s) (λ ts. AllByRecursion (λ t. t < n) ts) (λ f. (first, rest))
@@ -67,7 +66,7 @@ unfolding sound_closed
 closed_graph g s =
     let halves = and_parts (bounded g) (joined_up g && leading g) s in
     let parts = and_parts (joined_up g) (leading g) halves.1 in
-    let joins = and_parts (every (inside g.states) g.edges) (every (proper g.states) g.labels) parts.0 in
+    let joins = and_parts (list_all (inside g.states) g.edges) (list_all (proper g.states) g.labels) parts.0 in
     record {
       few = leb-true g.states most_states (and_parts (leb g.states most_states) _ halves.0).0;
       leads = λ t h. leads_from_leaves g.edges t (below_each (leaves g.edges) g.states t parts.1 h);

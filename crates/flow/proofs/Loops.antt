@@ -4,25 +4,25 @@ use Rattle.flow.specs.Closed.{closed, leaves, loop, loops}
 use Rattle.flow.specs.Graph.{Graph}
 use Rattle.flow.specs.Limits.{most_closed_edges, most_labels}
 use Rattle.flow.specs.Sound.{each_below, inside, sound, sound_closed}
-use Rattle.flow.specs.Tests.{any, every}
+use Rattle.std.specs.List.{list_any, list_all}
 use Rattle.flow.specs.declared.edge.Edge.{Edge}
 use Rattle.std.proofs.lemmas.Bool.{and_from, and_parts, cases_Bool, cases_lt, cond_both, eq-eqb, or_from, or_left, or_right}
 use Rattle.std.proofs.lemmas.Bool.Decides.{nat_tests}
 
 module _ {A : Type 0} (p : A → Bool) where
-  pub any_append : (xs ys : List A) → any p (xs ++ ys) ≡ (any p xs || any p ys)
+  pub any_append : (xs ys : List A) → list_any p (xs ++ ys) ≡ (list_any p xs || list_any p ys)
   any_append [] ys = refl
-  any_append (x ∷ xs) ys = ap (λ t. p x || t) (any_append xs ys) ∙ sym (or_assoc (p x) (any p xs) (any p ys))
+  any_append (x ∷ xs) ys = ap (λ t. p x || t) (any_append xs ys) ∙ sym (or_assoc (p x) (list_any p xs) (list_any p ys))
     where
       or_assoc : (a b c : Bool) → ((a || b) || c) ≡ (a || (b || c))
       or_assoc true b c = refl
       or_assoc false b c = refl
 
-  pub every_append : (xs ys : List A) → every p xs ≡ true → every p ys ≡ true → every p (xs ++ ys) ≡ true
+  pub every_append : (xs ys : List A) → list_all p xs ≡ true → list_all p ys ≡ true → list_all p (xs ++ ys) ≡ true
   every_append [] ys e f = f
   every_append (x ∷ xs) ys e f =
-      let h = and_parts (p x) (every p xs) e in
-      and_from (p x) (every p (xs ++ ys)) h.0 (every_append xs ys h.1 f)
+      let h = and_parts (p x) (list_all p xs) e in
+      and_from (p x) (list_all p (xs ++ ys)) h.0 (every_append xs ys h.1 f)
 
 module _ (es : List Edge) where
   -- one state more
@@ -73,11 +73,11 @@ module _ (es : List Edge) where
       or-false false = refl
 
   -- they join states
-  inside-loops : (m n : ℕ) → n ≤ m → every (inside m) (loops es n) ≡ true
+  inside-loops : (m n : ℕ) → n ≤ m → list_all (inside m) (loops es n) ≡ true
   inside-loops m zero h = refl
   inside-loops m (suc n) h =
       every_append (inside m) (loops es n) (loop es n) (inside-loops m n (omega arith))
-      (cond_both (leaves es n) [] (_ ∷ []) (λ l. every (inside m) l ≡ true) (λ e. refl) (λ e. grind (arith, nat_tests)))
+      (cond_both (leaves es n) [] (_ ∷ []) (λ l. list_all (inside m) l ≡ true) (λ e. refl) (λ e. grind (arith, nat_tests)))
 
   -- each state has an outgoing edge after its turn
   leaves_loop : (s : ℕ) → leaves es s ≡ false → leaves (loop es s) s ≡ true

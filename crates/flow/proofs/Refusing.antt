@@ -5,7 +5,7 @@ use Rattle.flow.specs.Drawn.{added, after, answer, is_edge, is_label, refusal}
 use Rattle.flow.specs.Graph.{Graph}
 use Rattle.flow.specs.Limits.{most_arguments, most_edges, most_labels, most_states, predicates}
 use Rattle.flow.specs.Refusals.{leaving, reply}
-use Rattle.flow.specs.Tests.{any}
+use Rattle.std.specs.List.{list_any}
 use Rattle.flow.specs.declared.refusal.Refusal.{Refusal}
 use Rattle.flow.specs.declared.refusal.Refusal.TheVariants.{AlreadyThere, BadLabel, TableFull, TooManyStates, UnknownState}
 use Rattle.std.proofs.lemmas.Bool.Decides.{nat_tests}
@@ -39,19 +39,19 @@ module _ (g : Graph) (a b : ℕ) where
   unfolding refusal
   edge_unknown h = grind (arith, nat_tests)
 
-  pub edge_there : a < g.states → b < g.states → any (is_edge a b) g.edges ≡ true
+  pub edge_there : a < g.states → b < g.states → list_any (is_edge a b) g.edges ≡ true
       → refusal g (edge a b) ≡ Some AlreadyThere
   unfolding refusal
   edge_there h k e = grind (arith, nat_tests)
 
   pub edge_full :
-      a < g.states → b < g.states → any (is_edge a b) g.edges ≡ false → most_edges ≤ length g.edges
+      a < g.states → b < g.states → list_any (is_edge a b) g.edges ≡ false → most_edges ≤ length g.edges
       → refusal g (edge a b) ≡ Some TableFull
   unfolding refusal
   edge_full h k e m = grind (arith, nat_tests)
 
   pub edge_fine :
-      a < g.states → b < g.states → any (is_edge a b) g.edges ≡ false → length g.edges < most_edges
+      a < g.states → b < g.states → list_any (is_edge a b) g.edges ≡ false → length g.edges < most_edges
       → refusal g (edge a b) ≡ None
   unfolding refusal
   edge_fine h k e m = grind (arith, nat_tests)
@@ -67,18 +67,18 @@ module _ (g : Graph) (s p : ℕ) (ns : List ℕ) where
   label_bad h k = grind (arith, nat_tests)
 
   module _ (known : s < g.states) (small : p < predicates) (few : length ns ≤ most_arguments) where
-    pub label_there : any (is_label s p ns) g.labels ≡ true → refusal g (label s p ns) ≡ Some AlreadyThere
+    pub label_there : list_any (is_label s p ns) g.labels ≡ true → refusal g (label s p ns) ≡ Some AlreadyThere
     unfolding refusal
     label_there e = grind (arith, nat_tests)
 
     pub label_full :
-        any (is_label s p ns) g.labels ≡ false → most_labels ≤ length g.labels
+        list_any (is_label s p ns) g.labels ≡ false → most_labels ≤ length g.labels
         → refusal g (label s p ns) ≡ Some TableFull
     unfolding refusal
     label_full e m = grind (arith, nat_tests)
 
     pub label_fine :
-        any (is_label s p ns) g.labels ≡ false → length g.labels < most_labels
+        list_any (is_label s p ns) g.labels ≡ false → length g.labels < most_labels
         → refusal g (label s p ns) ≡ None
     unfolding refusal
     label_fine e m = grind (arith, nat_tests)

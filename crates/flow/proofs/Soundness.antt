@@ -5,7 +5,7 @@ use Rattle.flow.specs.Drawn.{added, refusal}
 use Rattle.flow.specs.Graph.{Graph, Label}
 use Rattle.flow.specs.Limits.{most_edges, most_states}
 use Rattle.flow.specs.Sound.{inside, proper, sound}
-use Rattle.flow.specs.Tests.{every}
+use Rattle.std.specs.List.{list_all}
 use Rattle.flow.specs.declared.edge.Edge.{Edge}
 use Rattle.std.proofs.lemmas.List.{length_push}
 use Rattle.std.proofs.lemmas.Bool.{and_from, and_parts}
@@ -13,19 +13,19 @@ use Rattle.std.proofs.lemmas.Bool.Decides.{nat_tests}
 
 module _ {A : Type 0} (p : A → Bool) where
   -- one more at the end
-  pub every_push : (xs : List A) (y : A) → every p xs ≡ true → p y ≡ true → every p (xs ++ y ∷ []) ≡ true
+  pub every_push : (xs : List A) (y : A) → list_all p xs ≡ true → p y ≡ true → list_all p (xs ++ y ∷ []) ≡ true
   every_push [] y e f = and_from (p y) true f refl
   every_push (x ∷ xs) y e f =
-      let h = and_parts (p x) (every p xs) e in
-      and_from (p x) (every p (xs ++ y ∷ [])) h.0 (every_push xs y h.1 f)
+      let h = and_parts (p x) (list_all p xs) e in
+      and_from (p x) (list_all p (xs ++ y ∷ [])) h.0 (every_push xs y h.1 f)
 
   -- a test that asks no more
-  pub every_like : (q : A → Bool) → ((x : A) → p x ≡ true → q x ≡ true) → (xs : List A) → every p xs ≡ true
-      → every q xs ≡ true
+  pub every_like : (q : A → Bool) → ((x : A) → p x ≡ true → q x ≡ true) → (xs : List A) → list_all p xs ≡ true
+      → list_all q xs ≡ true
   every_like q f [] e = refl
   every_like q f (x ∷ xs) e =
-      let h = and_parts (p x) (every p xs) e in
-      and_from (q x) (every q xs) (f x h.0) (every_like q f xs h.1)
+      let h = and_parts (p x) (list_all p xs) e in
+      and_from (q x) (list_all q xs) (f x h.0) (every_like q f xs h.1)
 
 inside_more : (n : ℕ) (e : Edge) → inside n e ≡ true → inside (n + 1) e ≡ true
 inside_more n e h = grind (arith, nat_tests)

@@ -1,12 +1,12 @@
 -- Closing: each state that has no outgoing edge gets one to itself.
 use Rattle.std.specs.Prelude.{ℕ, zero, suc, Bool, cond, List, [], ◌∷◌, ◌++◌, nat_eq}
 use Rattle.flow.specs.Graph.{Graph}
-use Rattle.flow.specs.Tests.{any}
+use Rattle.std.specs.List.{list_any}
 use Rattle.flow.specs.declared.edge.Edge.{Edge}
 
 -- an edge leaves from s
 abbrev pub leaves : List Edge → ℕ → Bool
-leaves es s = any (λ e. nat_eq e.from s) es
+leaves es s = list_any (λ e. nat_eq e.from s) es
 
 -- the edge that closing adds for s, if any
 abbrev pub loop : List Edge → ℕ → List Edge

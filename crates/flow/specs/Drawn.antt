@@ -4,7 +4,8 @@ use Rattle.flow.specs.Build.{Build, edge, label, state}
 use Rattle.flow.specs.Graph.{Graph, Label, nothing_drawn}
 use Rattle.flow.specs.Limits.{most_arguments, most_edges, most_labels, most_states, predicates}
 use Rattle.flow.specs.Refusals.{leaving, reply}
-use Rattle.flow.specs.Tests.{any, earliest, same_numbers}
+use Rattle.std.specs.List.{list_any}
+use Rattle.flow.specs.Tests.{earliest, same_numbers}
 use Rattle.flow.specs.declared.edge.Edge.{Edge}
 use Rattle.flow.specs.declared.refusal.Refusal.{Refusal}
 use Rattle.flow.specs.declared.refusal.Refusal.TheVariants.{AlreadyThere, BadLabel, TableFull, TooManyStates, UnknownState}
@@ -27,14 +28,14 @@ refusal g state = earliest ((nat_le most_states g.states, TooManyStates) ∷ [])
 refusal g (edge a b) =
     earliest
     ((unknown g a || unknown g b, UnknownState)
-    ∷ (any (is_edge a b) g.edges, AlreadyThere)
+    ∷ (list_any (is_edge a b) g.edges, AlreadyThere)
     ∷ (nat_le most_edges (length g.edges), TableFull)
     ∷ [])
 refusal g (label s p ns) =
     earliest
     ((unknown g s, UnknownState)
     ∷ (nat_le predicates p || nat_le (most_arguments + 1) (length ns), BadLabel)
-    ∷ (any (is_label s p ns) g.labels, AlreadyThere)
+    ∷ (list_any (is_label s p ns) g.labels, AlreadyThere)
     ∷ (nat_le most_labels (length g.labels), TableFull)
     ∷ [])
 

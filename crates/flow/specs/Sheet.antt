@@ -15,14 +15,14 @@ use Rattle.flow.specs.Line.{
   some_until,
 }
 use Rattle.flow.specs.Operators.{counted, operator_of}
-use Rattle.flow.specs.Tests.{every}
+use Rattle.std.specs.List.{list_all}
 use Rattle.flow.specs.declared.operator.Operator.{Operator}
 use Rattle.flow.specs.declared.refusal.Refusal.{Refusal}
 use Rattle.flow.specs.declared.refusal.Refusal.TheVariants.{BadOperand, TableFull, UnknownOperator}
 
 -- after n lines the operands are right: lines are earlier ones, variables and predicates are below their bounds
 abbrev pub right : ℕ → Line → Bool
-right n (predicate p xs) = nat_lt p predicates && every (λ x. nat_lt x variables) xs
+right n (predicate p xs) = nat_lt p predicates && list_all (λ x. nat_lt x variables) xs
 right n (and a b) = nat_lt a n && nat_lt b n
 right n (or a b) = nat_lt a n && nat_lt b n
 right n (not a) = nat_lt a n

@@ -13,7 +13,7 @@ use Rattle.flow.specs.Limits.{
 }
 use Rattle.flow.specs.Line.{Line}
 use Rattle.flow.specs.Sheet.{right}
-use Rattle.flow.specs.Tests.{every}
+use Rattle.std.specs.List.{list_all}
 use Rattle.flow.specs.declared.edge.Edge.{Edge}
 
 -- the edge joins states below n
@@ -30,7 +30,7 @@ small g =
     nat_le g.states most_states && (nat_le (length g.edges) most_edges && nat_le (length g.labels) most_labels)
 
 abbrev pub joined_up : Graph → Bool
-joined_up g = every (inside g.states) g.edges && every (proper g.states) g.labels
+joined_up g = list_all (inside g.states) g.edges && list_all (proper g.states) g.labels
 
 -- what holds of every draft
 unfoldable pub sound : Graph → Bool

@@ -4,7 +4,7 @@ ghost use Rattle.flow.specs.Held.{asked_of, line_of};
 ghost use Rattle.flow.specs.Line.{made as spelled, operator as headed_by};
 ghost use Rattle.flow.specs.Operators.{counted, operator_of};
 ghost use Rattle.flow.specs.Sheet.{right as sits, worded};
-ghost use Rattle.flow.specs.Tests.{every};
+ghost use Rattle.std.specs.List.{list_all};
 
 use crate::arguments::Arguments;
 use crate::limits::{PREDICATES, VARIABLES};
@@ -50,7 +50,7 @@ pub enum Line {
 
 // Whether each number is below the bound.
 fn all_below(numbers: &[u32], bound: u32) -> bool
-    ensures { result ≡ every (λ n. nat_lt n bound) numbers.now }
+    ensures { result ≡ list_all (λ n. nat_lt n bound) numbers.now }
 {
     for n in numbers {
         if *n >= bound {

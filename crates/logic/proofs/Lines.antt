@@ -4,7 +4,7 @@ use Rattle.flow.specs.Graph.{Graph}
 use Rattle.flow.specs.Limits.{predicates, variables}
 use Rattle.flow.specs.Line.{Line, predicate, and, or, not, exists, all_next, some_next, all_until, some_until}
 use Rattle.flow.specs.Sheet.{right}
-use Rattle.flow.specs.Tests.{every}
+use Rattle.std.specs.List.{list_all}
 use Rattle.kinds.specs.Consequences.{Consequences}
 use Rattle.kinds.specs.Member.{◌∈◌, here, there}
 use Rattle.kinds.specs.Model.{Model}
@@ -76,7 +76,7 @@ module _ {B : Type 0} (m : Model B) (laws : Consequences m) (g : Graph) (limit :
       → ((a : ℕ) → a ∈ operands l → Ready m laws g limit nameable ws (length w.witnesses) (earlier fs a) (list w a))
       → Worked m laws g limit nameable w next fs l ws
   worked (predicate p xs) i r e later ops =
-      let small = (and_parts (ltb p predicates) (every (λ x. ltb x variables) xs) r).1 in
+      let small = (and_parts (ltb p predicates) (list_all (λ x. ltb x variables) xs) r).1 in
       worked_plain (predicate p xs) _ e (λ rows q. record {
         is_right = exact_predicate m laws g limit p xs q nameable
             (λ x j. ltb-true x variables (from_every (λ y. ltb y variables) xs small j));

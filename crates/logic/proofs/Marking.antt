@@ -2,7 +2,7 @@
 use Rattle.std.proofs.Common.{◌≡◌, ℕ, zero, suc, Bool, true, false, eqb, List, sym, refl, subst, inl, inr}
 use Rattle.flow.specs.Facts.{Ordered}
 use Rattle.flow.specs.Line.{Line}
-use Rattle.flow.specs.Tests.{any}
+use Rattle.std.specs.List.{list_any}
 use Rattle.logic.specs.Promises.{ReachedLinesAreMarked}
 use Rattle.logic.specs.Reached.{Reaches, itself, line_at, marked_below, marking, named, operands, reached}
 use Rattle.logic.proofs.Members.{from_any}
@@ -18,7 +18,7 @@ module _ (ls : List Line) (asked : ℕ) where
   marked_more : (n : ℕ) (b : Bool) (marks : ℕ → Bool) → marks n ≡ b → Marked marks
       → Marked (marking b (operands (line_at ls n)) marks)
   marked_more n false marks e all i t = all i t
-  marked_more n true marks e all i t = elim (or_cases (marks i) (any (eqb i) (operands (line_at ls n))) t) [
+  marked_more n true marks e all i t = elim (or_cases (marks i) (list_any (eqb i) (operands (line_at ls n))) t) [
     | inl own ↦ all i own
     | inr among ↦
         let a = from_any (eqb i) (operands (line_at ls n)) among in

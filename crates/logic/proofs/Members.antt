@@ -1,10 +1,9 @@
 -- Membership of lists that are joined, mapped and counted.
 use Rattle.std.proofs.Common.{◌≡◌, ℕ, zero, suc, ◌+◌, ◌<◌, ◌≤◌, Bool, true, false, cond, ◌||◌, ◌⊎◌, List, [], ◌∷◌, ◌++◌, map, length, Some, None, Option, sym, refl, ap, ◌∙◌, subst, inl, inr, arith}
 use native.Mathlib.Decide.{ℕ_discrete}
-use Rattle.flow.specs.Tests.{any, every}
 use Rattle.kinds.specs.Member.{◌∈◌, here, there}
 use Rattle.std.proofs.lemmas.Bool.{and_parts, false≢true, or_left, or_right}
-use Rattle.std.specs.List.{range_with_len, flat_map, AllByRecursion}
+use Rattle.std.specs.List.{range_with_len, flat_map, AllByRecursion, list_any, list_all}
 use Rattle.std.specs.Option.{option_to_list}
 
 module _ {A : Type 0} where
@@ -50,25 +49,25 @@ module _ {A : Type 0} where
   in_cond {a} b xs e i = subst (λ (c : Bool). a ∈ cond c xs []) (sym e) i
 
   -- an element that passes is there, where some element does
-  pub from_any : (p : A → Bool) (xs : List A) → any p xs ≡ true → (a : A) × (a ∈ xs) × (p a ≡ true)
+  pub from_any : (p : A → Bool) (xs : List A) → list_any p xs ≡ true → (a : A) × (a ∈ xs) × (p a ≡ true)
   from_any p [] e = absurd (false≢true e)
   from_any p (x ∷ xs) e = step (p x) refl (λ f. from_any p xs f) e
     where
-      step : (b : Bool) → p x ≡ b → (any p xs ≡ true → (a : A) × (a ∈ xs) × (p a ≡ true)) → (b || any p xs) ≡ true
+      step : (b : Bool) → p x ≡ b → (list_any p xs ≡ true → (a : A) × (a ∈ xs) × (p a ≡ true)) → (b || list_any p xs) ≡ true
           → (a : A) × (a ∈ (x ∷ xs)) × (p a ≡ true)
       step true q rec f = (x, here refl, q)
       step false q rec f = let r = rec f in (r.0, there r.1, r.2)
 
   -- where an element passes, some element does
-  pub in_any : (p : A → Bool) {a : A} {xs : List A} → a ∈ xs → p a ≡ true → any p xs ≡ true
-  in_any p {a} (here {x = x} {xs = xs} e) q = or_left (p x) (any p xs) (ap p (sym e) ∙ q)
-  in_any p (there {x = x} {xs = xs} i) q = or_right (p x) (any p xs) (in_any p i q)
+  pub in_any : (p : A → Bool) {a : A} {xs : List A} → a ∈ xs → p a ≡ true → list_any p xs ≡ true
+  in_any p {a} (here {x = x} {xs = xs} e) q = or_left (p x) (list_any p xs) (ap p (sym e) ∙ q)
+  in_any p (there {x = x} {xs = xs} i) q = or_right (p x) (list_any p xs) (in_any p i q)
 
   -- where every element passes, each does
-  pub from_every : (p : A → Bool) {a : A} (xs : List A) → every p xs ≡ true → a ∈ xs → p a ≡ true
+  pub from_every : (p : A → Bool) {a : A} (xs : List A) → list_all p xs ≡ true → a ∈ xs → p a ≡ true
   from_every p [] e i = elim i [ ]
-  from_every p (x ∷ xs) e (here q) = ap p q ∙ (and_parts (p x) (every p xs) e).0
-  from_every p (x ∷ xs) e (there i) = from_every p xs (and_parts (p x) (every p xs) e).1 i
+  from_every p (x ∷ xs) e (here q) = ap p q ∙ (and_parts (p x) (list_all p xs) e).0
+  from_every p (x ∷ xs) e (there i) = from_every p xs (and_parts (p x) (list_all p xs) e).1 i
 
   -- what holds of all elements holds of each
   pub from_all : (P : A → Type 0) {a : A} {xs : List A} → AllByRecursion P xs → a ∈ xs → P a

@@ -3,7 +3,6 @@ use Rattle.std.proofs.Common.{◌≡◌, Bool, true, List, [], ◌∷◌, refl}
 use Rattle.flow.specs.Closed.{closed}
 use Rattle.flow.specs.Drawn.{added, drawn, refusal}
 use Rattle.flow.specs.Sheet.{entry, sheet}
-use Rattle.flow.specs.Tests.{every}
 use Rattle.kinds.specs.Amounts.{amounts}
 use Rattle.kinds.specs.Fragments.{fragments, numbers_from}
 use Rattle.rows.specs.Denials.{denial}
@@ -42,7 +41,7 @@ use Rattle.logic.specs.Witnessing.{form, of_exists}
 use Rattle.logic.proofs.Computing.{outcome, outcome_checks, work, work_all}
 use Rattle.logic.proofs.Rounding.{settle}
 use Rattle.std.proofs.lemmas.Bool.{and_parts}
-use Rattle.std.specs.List.{AllByRecursion}
+use Rattle.std.specs.List.{AllByRecursion, list_all}
 
 -- the trial comes out as it is to, with the outcome that is computed
 abbrev passes : Trial → Bool
@@ -66,13 +65,13 @@ from_passes (amounts_meet a b expected) e = e
 from_passes (amount_pieces b expected) e = e
 
 -- so do all trials
-all_pass : (ts : List Trial) → every passes ts ≡ true → AllByRecursion Passes ts
+all_pass : (ts : List Trial) → list_all passes ts ≡ true → AllByRecursion Passes ts
 all_pass [] e = tt
 all_pass (t ∷ ts) e =
-    let h = and_parts (passes t) (every passes ts) e in (from_passes t h.0, all_pass ts h.1)
+    let h = and_parts (passes t) (list_all passes ts) e in (from_passes t h.0, all_pass ts h.1)
 
 -- the test, computed
-computed : every passes trials ≡ true
+computed : list_all passes trials ≡ true
 unfolding added refusal entry numbers_from denial alike has none single union blank equal join blank_witness
     equal_witness add add_all pairing pairs told labelled moved of_all_next of_and of_not of_or of_predicate
     of_some_next stepped reached round form of_exists settle work work_all

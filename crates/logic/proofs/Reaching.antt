@@ -5,7 +5,7 @@ use Rattle.flow.specs.Facts.{Ordered}
 use Rattle.flow.specs.Limits.{variables}
 use Rattle.flow.specs.Line.{Line, predicate, and, or, not, exists, all_next, some_next, all_until, some_until}
 use Rattle.flow.specs.Sheet.{right}
-use Rattle.flow.specs.Tests.{any}
+use Rattle.std.specs.List.{list_any}
 use Rattle.kinds.specs.Member.{◌∈◌, here, there}
 use Rattle.logic.specs.Reached.{line_at, marked_below, marking, operands, reached}
 use Rattle.logic.proofs.Flags.{false_of, or_none}
@@ -57,11 +57,11 @@ module _ (ls : List Line) (ordered : Ordered ls) where
   -- a line that marks its operands takes no mark away
   marking_keeps : (b : Bool) (os : List ℕ) (marks : ℕ → Bool) (i : ℕ) → marks i ≡ true → marking b os marks i ≡ true
   marking_keeps false os marks i e = e
-  marking_keeps true os marks i e = or_left (marks i) (any (eqb i) os) e
+  marking_keeps true os marks i e = or_left (marks i) (list_any (eqb i) os) e
 
   -- and marks each of them
   marking_sets : (os : List ℕ) (marks : ℕ → Bool) (i : ℕ) → i ∈ os → marking true os marks i ≡ true
-  marking_sets os marks i j = or_right (marks i) (any (eqb i) os) (in_any (eqb i) j (eq-eqb i i refl))
+  marking_sets os marks i j = or_right (marks i) (list_any (eqb i) os) (in_any (eqb i) j (eq-eqb i i refl))
 
   -- marks stay
   marks_stay : (n : ℕ) (marks : ℕ → Bool) (i : ℕ) → marks i ≡ true → marked_below ls n marks i ≡ true
@@ -76,13 +76,13 @@ module _ (ls : List Line) (ordered : Ordered ls) where
   marking_above false n i marks l = refl
   marking_above true n i marks l =
       let os = operands (line_at ls n) in
-      let none : any (eqb i) os ≡ false =
-      false_of (any (eqb i) os) (λ t.
+      let none : list_any (eqb i) os ≡ false =
+      false_of (list_any (eqb i) os) (λ t.
       let a = from_any (eqb i) os t in
       let same = eqb-true i a.0 a.2 in
       let below = earlier_named n a.0 a.1 in
       omega arith) in
-      or_none (marks i) (any (eqb i) os) none
+      or_none (marks i) (list_any (eqb i) os) none
 
   -- nor in all lines below n
   marks_above : (n : ℕ) (marks : ℕ → Bool) (i : ℕ) → n ≤ i → marked_below ls n marks i ≡ marks i

@@ -1,18 +1,17 @@
 -- Lists of rows: how rows are added to a list, and how two lists are paired.
 use Rattle.std.specs.Prelude.{ℕ, Bool, cond, List, [], ◌∷◌, ◌++◌, length, Ok, Err, nat_lt}
-use Rattle.flow.specs.Tests.{any}
 use Rattle.kinds.specs.Model.{Model}
 use Rattle.rows.specs.Rows.{equal, join}
 use Rattle.rows.specs.declared.row.Row.{Row}
 use Rattle.logic.specs.Outcomes.{Outcome, then}
 use Rattle.logic.specs.declared.shortage.Shortage.TheVariants.{Rows}
-use Rattle.std.specs.List.{flat_map}
+use Rattle.std.specs.List.{flat_map, list_any}
 use Rattle.std.specs.Option.{option_to_list}
 
 module _ {B : Type 0} (m : Model B) where
   -- a row need not be added to the list: an equal one is there
   unfoldable pub told : List (Row B) → Row B → Bool
-  told rows r = any (λ q. equal m q r) rows
+  told rows r = list_any (λ q. equal m q r) rows
 
   -- each row of the first list joined with each of the second, in order, where they join
   unfoldable pub pairs : List (Row B) → List (Row B) → List (Row B)

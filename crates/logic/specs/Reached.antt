@@ -1,7 +1,7 @@
 -- The lines that a line reaches: itself, and the operands of each line that it reaches; by relation, and by marks.
 use Rattle.std.specs.Prelude.{ℕ, zero, suc, Bool, true, false, ◌||◌, List, [], ◌∷◌, nat_eq, slice_index_or}
 use Rattle.flow.specs.Line.{Line, predicate, and, or, not, exists, all_next, some_next, all_until, some_until}
-use Rattle.flow.specs.Tests.{any}
+use Rattle.std.specs.List.{list_any}
 use Rattle.kinds.specs.Member.{◌∈◌}
 
 -- the lines that a line names
@@ -27,7 +27,7 @@ pub data Reaches (ls : List Line) (asked : ℕ) : ℕ → Type 0 where
 -- marks on lines, with those of these lines set too, if they are to be
 abbrev pub marking : Bool → List ℕ → (ℕ → Bool) → ℕ → Bool
 marking false os marks i = marks i
-marking true os marks i = marks i || any (nat_eq i) os
+marking true os marks i = marks i || list_any (nat_eq i) os
 
 -- from the line below n down to the first: a marked line marks its operands
 abbrev pub marked_below : List Line → ℕ → (ℕ → Bool) → ℕ → Bool

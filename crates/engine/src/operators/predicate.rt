@@ -2,13 +2,12 @@
 ghost use Rattle.std.specs.Prelude.{◌≡◌, ◌<◌, true, Some as There, nat_lt};
 ghost use Rattle.flow.specs.Cases.{graph_in};
 ghost use Rattle.flow.specs.Limits.{variables as variable_count};
-ghost use Rattle.flow.specs.Tests.{every};
 ghost use Rattle.lists.specs.Counts.{list_count};
 ghost use Rattle.lists.specs.Lent.{Lent, table_in};
 ghost use Rattle.lists.specs.Tables.{adding, left_by};
 ghost use Rattle.logic.specs.Operators.{labelled, met_with, naming, narrowed as narrower, of_label};
 ghost use Rattle.rows.specs.Rows.{box as box_of};
-ghost use Rattle.std.specs.List.{flat_map};
+ghost use Rattle.std.specs.List.{flat_map, list_all};
 
 use flow::case::Case;
 use kinds::kind::Kind;
@@ -37,7 +36,7 @@ fn narrowed<K: Kind>(row: &Row<K::Box>, variable: u32, value: u32) -> Option<Row
 // The row with the box of each variable met with that of its value, in order; none where a meet is none or the counts
 // differ.
 fn named_row<K: Kind>(start: &Row<K::Box>, variables: &[u32], values: &[u32]) -> Option<Row<K::Box>>
-    requires { every (λ x. nat_lt x variable_count) variables.now ≡ true }
+    requires { list_all (λ x. nat_lt x variable_count) variables.now ≡ true }
     ensures { result ≡ naming K.model (There start.now) variables.now values.now }
 {
     if variables.len() != values.len() {
@@ -65,7 +64,7 @@ fn state_labels<K: Kind>(
 ) -> Result<(), Shortage>
     requires lent { Lent lists.old rows.old }
     requires known { dest < list_count }
-    requires small { every (λ x. nat_lt x variable_count) variables.now ≡ true }
+    requires small { list_all (λ x. nat_lt x variable_count) variables.now ≡ true }
     ensures { let graph = graph_in case.now in
         left_by result (table_in lists.new rows.new)
         ≡ adding K.model (table_in lists.old rows.old) dest
@@ -94,7 +93,7 @@ pub fn predicate<K: Kind>(
 ) -> Result<(), Shortage>
     requires lent { Lent lists.old rows.old }
     requires known { dest < list_count }
-    requires small { every (λ x. nat_lt x variable_count) variables.now ≡ true }
+    requires small { list_all (λ x. nat_lt x variable_count) variables.now ≡ true }
     ensures { let table = table_in lists.old rows.old in
         left_by result (table_in lists.new rows.new)
         ≡ adding K.model table dest (labelled K.model (graph_in case.now) predicate variables.now) }

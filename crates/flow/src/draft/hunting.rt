@@ -3,14 +3,14 @@ ghost use Rattle.std.specs.Prelude.{◌≡◌, map};
 ghost use Rattle.flow.specs.Closed.{leaves};
 ghost use Rattle.flow.specs.Drawn.{is_edge, is_label};
 ghost use Rattle.flow.specs.Held.{label_of};
-ghost use Rattle.flow.specs.Tests.{any};
+ghost use Rattle.std.specs.List.{list_any};
 
 use crate::edge::Edge;
 use crate::label::Label;
 
 // Whether an edge joins the two states.
 pub(super) fn joined(edges: &[Edge], from: u32, to: u32) -> bool
-    ensures { result ≡ any (is_edge from to) edges.now }
+    ensures { result ≡ list_any (is_edge from to) edges.now }
 {
     for edge in edges {
         if edge.joins(from, to) {
@@ -34,7 +34,7 @@ pub(super) fn left_from(edges: &[Edge], state: u32) -> bool
 
 // Whether the state has this very label.
 pub(super) fn labelled(labels: &[Label], state: u32, predicate: u32, values: &[u32]) -> bool
-    ensures { result ≡ any (is_label state predicate values.now) (map label_of labels.now) }
+    ensures { result ≡ list_any (is_label state predicate values.now) (map label_of labels.now) }
 {
     for label in labels {
         if label.says(state, predicate, values) {

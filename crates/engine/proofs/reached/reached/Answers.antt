@@ -1,7 +1,7 @@
 use Rattle.std.proofs.Common.{◌≡◌, suc, ◌-◌, true, false, ltb, map, set, replicate, ap, ◌∙◌, add-one, arith}
 use Rattle.flow.specs.Held.{line_of}
 use Rattle.flow.specs.Limits.{most_lines}
-use Rattle.flow.specs.Tests.{every}
+use Rattle.std.specs.List.{list_all}
 use Rattle.logic.specs.Reached.{marked_below, marking, operands, reached}
 use Rattle.engine.proofs.Marking.{mark_asked, marks_more, marks_pass, operands_small, read_line}
 use Rattle.engine.proofs.reached.reached.Goals as goal
@@ -13,7 +13,7 @@ mark_named-requires c =
     let few = c.requires.few in
     let known = c.requires.known in
     let i = c.loop-i.i - 1 in
-    ap (λ l. every (λ x. ltb x most_lines) (operands l))
+    ap (λ l. list_all (λ x. ltb x most_lines) (operands l))
     (read_line ls i c.index-lines-i.result (omega arith) c.index-lines-i.is)
     ∙ operands_small (map line_of ls) c.requires.ordered i (omega arith)
 

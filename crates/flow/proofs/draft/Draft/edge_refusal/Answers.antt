@@ -1,7 +1,7 @@
 use Rattle.std.proofs.Common.{◌≤◌, ◌⊎◌, sym, ap, ◌∙◌, inl, inr, arith}
 use Rattle.flow.specs.Drafts.{drawn_in}
 use Rattle.flow.specs.Drawn.{is_edge}
-use Rattle.flow.specs.Tests.{any}
+use Rattle.std.specs.List.{list_any}
 use Rattle.flow.proofs.Refusing.{edge_fine, edge_full, edge_there, edge_unknown}
 use Rattle.flow.proofs.draft.Draft.edge_refusal.Goals as goal
 use Rattle.flow.proofs.draft.Draft.edge_refusal.Goals.{
@@ -23,7 +23,7 @@ returns-then-from-self c =
 pub returns-then-joined : goal.returns-then-joined
 unfolding drawn_in
 returns-then-joined c =
-    let test = any (is_edge c.args.from c.args.to) in
+    let test = list_any (is_edge c.args.from c.args.to) in
     sym
     (edge_there (drawn_in c.args.self.now) c.args.from c.args.to c.if-from-self.false
     c.if-to-self.false
@@ -32,7 +32,7 @@ returns-then-joined c =
 pub returns-then-len-ge-MOST_EDGES : goal.returns-then-len-ge-MOST_EDGES
 unfolding drawn_in
 returns-then-len-ge-MOST_EDGES c =
-    let test = any (is_edge c.args.from c.args.to) in
+    let test = list_any (is_edge c.args.from c.args.to) in
     sym
     (edge_full (drawn_in c.args.self.now) c.args.from c.args.to c.if-from-self.false
     c.if-to-self.false
@@ -42,7 +42,7 @@ returns-then-len-ge-MOST_EDGES c =
 pub returns : goal.returns
 unfolding drawn_in
 returns c =
-    let test = any (is_edge c.args.from c.args.to) in
+    let test = list_any (is_edge c.args.from c.args.to) in
     sym
     (edge_fine (drawn_in c.args.self.now) c.args.from c.args.to c.if-from-self.false
     c.if-to-self.false

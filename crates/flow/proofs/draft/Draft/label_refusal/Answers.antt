@@ -2,7 +2,7 @@ use Rattle.std.proofs.Common.{map, vec_items, sym, ap, ◌∙◌, inl, inr, arit
 use Rattle.flow.specs.Drafts.{drawn_in}
 use Rattle.flow.specs.Drawn.{is_label}
 use Rattle.flow.specs.Held.{label_of}
-use Rattle.flow.specs.Tests.{any}
+use Rattle.std.specs.List.{list_any}
 use Rattle.flow.proofs.Refusing.{label_bad, label_fine, label_full, label_there, label_unknown}
 use Rattle.flow.proofs.draft.Draft.label_refusal.Goals as goal
 use Rattle.std.proofs.lemmas.List.{length-map}
@@ -24,7 +24,7 @@ returns-then-predicate-ge-PREDICATES c =
 pub returns-then-labelled : goal.returns-then-labelled
 unfolding drawn_in
 returns-then-labelled c =
-    let test = any (is_label c.args.state c.args.predicate c.args.values.now) in
+    let test = list_any (is_label c.args.state c.args.predicate c.args.values.now) in
     sym
     (label_there (drawn_in c.args.self.now) c.args.state c.args.predicate c.args.values.now
     c.if-state-self.false c.if-predicate-ge-PREDICATES.false c.if-values-gt-MOST_ARGUMENTS.false
@@ -33,7 +33,7 @@ returns-then-labelled c =
 pub returns-then-len-ge-MOST_LABELS : goal.returns-then-len-ge-MOST_LABELS
 unfolding drawn_in
 returns-then-len-ge-MOST_LABELS c =
-    let test = any (is_label c.args.state c.args.predicate c.args.values.now) in
+    let test = list_any (is_label c.args.state c.args.predicate c.args.values.now) in
     let labels = c.args.self.now.labels in
     sym
     (label_full (drawn_in c.args.self.now) c.args.state c.args.predicate c.args.values.now
@@ -44,7 +44,7 @@ returns-then-len-ge-MOST_LABELS c =
 pub returns : goal.returns
 unfolding drawn_in
 returns c =
-    let test = any (is_label c.args.state c.args.predicate c.args.values.now) in
+    let test = list_any (is_label c.args.state c.args.predicate c.args.values.now) in
     let labels = c.args.self.now.labels in
     sym
     (label_fine (drawn_in c.args.self.now) c.args.state c.args.predicate c.args.values.now

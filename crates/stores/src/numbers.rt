@@ -1,0 +1,17 @@
+// Numbers in place, at most N of them.
+ghost use Rattle.std.specs.Prelude.{◌≤◌};
+
+mod copying;
+mod methods;
+
+/// A list of at most N numbers: the first `count` of the places count.
+#[derive(Clone, Copy)]
+pub struct Numbers<const N: usize> {
+    places: [u32; N],
+    count: usize,
+    ghost few: { count ≤ N },
+}
+
+/// There are more numbers than places.
+#[derive(Clone, Copy, PartialEq, Eq, Debug)]
+pub struct TooMany;

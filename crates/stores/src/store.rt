@@ -1,0 +1,70 @@
+// Things in memory that is got once, with room for N of them.
+ghost use Rattle.std.specs.Prelude.{◌≡◌, ◌<◌, ◌≤◌, List, [], ◌∷◌, ◌++◌, IfOk, ◌==◌, length, vec_len, vec_capacity};
+
+use std::alloc::{AllocError, Global};
+use std::marker::Model;
+
+/// A list of at most N things. A contract sees the list.
+#[derive(Drop)]
+pub struct Store<T, const N: usize> {
+    items: Vec<T>,
+}
+
+impl<T, const N: usize> Model for Store<T, N> {
+    ghost Value = { List T };
+
+    ghost view = { λ s. s.items.items };
+
+    ghost invariant = { λ s. (vec_len s.items ≤ N) × (N ≤ vec_capacity s.items) };
+}
+
+impl<T, const N: usize> Store<T, N> {
+    /// Nothing yet. This gets the memory for N things, and fails only for want of it.
+    pub fn new(heap: Global) -> Result<Store<T, N>, AllocError>
+        ensures { IfOk result (λ s. s ≡ []) }
+    {
+        Ok(Store {
+            items: Vec::with_capacity(heap, N)?,
+        })
+    }
+
+    /// One thing more, at the end.
+    pub fn push(&mut self, item: T)
+        requires { length self.old < N }
+        ensures { self.new ≡ self.old ++ item ∷ [] }
+    {
+        self.items.push_reserved(item);
+    }
+
+    /// Nothing any more. The memory stays.
+    pub fn clear(&mut self)
+    where
+        T: Drop,
+        ensures { self.new ≡ [] }
+    {
+        self.items.clear();
+    }
+
+    /// How many things there are.
+    pub fn len(&self) -> usize
+        ensures count { result ≡ length self.now }
+        ensures few { result ≤ N }
+    {
+        self.items.len()
+    }
+
+    /// Whether there are as many as there may be.
+    pub fn is_full(&self) -> bool
+        ensures { result ≡ (length self.now == N) }
+    {
+        self.items.len() == N
+    }
+
+    /// The things, in their order.
+    pub fn as_slice(&self) -> &[T]
+        ensures all { result.now ≡ self.now }
+        ensures few { length self.now ≤ N }
+    {
+        self.items.as_slice()
+    }
+}

@@ -57,7 +57,7 @@ impl<T, const N: usize> Store<T, N> {
     pub fn is_full(&self) -> bool
         ensures { result ≡ (length self.now == N) }
     {
-        self.items.len() == N
+        self.len() == N
     }
 
     /// The things, in their order.

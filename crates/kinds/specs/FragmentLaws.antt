@@ -1,5 +1,5 @@
 -- The fragments keep the laws.
-use Rattle.std.specs.Prelude.{◌≡◌, ℕ, zero, suc, ◌+◌, ◌%◌, ◌^◌, ◌<◌, ◌≤◌, Bool, true, false, cond, not, ◌&&◌, ◌||◌, List, [], ◌∷◌, ◌++◌, map, length, ◌==◌, nat_le, nat_lt, refl}
+use Rattle.std.specs.Prelude.{◌≡◌, ℕ, zero, suc, ◌+◌, ◌%◌, ◌^◌, ◌<◌, ◌≤◌, Bool, true, false, cond, not, ◌&&◌, ◌||◌, List, ◌∷◌, map, length, ◌==◌, nat_le, nat_lt, refl}
 use Rattle.std.proofs.Math.Bool.{and_comm, or-false, not-not}
 use Rattle.std.proofs.Common.{sym, ap, ◌∙◌, arith}
 use Rattle.std.specs.Int.Bits.{bit_or}
@@ -7,6 +7,10 @@ use Rattle.std.proofs.lemmas.Nat.{or_lt}
 use Rattle.std.proofs.Math.Pow.{pow-lt}
 use Rattle.std.proofs.lemmas.Bool.{eq-eqb}
 use Rattle.std.proofs.lemmas.Bool.Decides.{nat_tests}
+use Rattle.std.proofs.Math.ListN.{length-map}
+use Rattle.std.proofs.lemmas.List.FromFn.{length-range_with_len}
+use Rattle.std.proofs.lemmas.List.Sums.{count_by-le-length, length-filter}
+use Rattle.std.specs.List.{filter, range_with_len}
 use Rattle.kinds.specs.BitSets.{bit-or, bit_past, bit_pow, same_bits}
 use Rattle.kinds.specs.Fragments.{bit, common, equal, fragments, keeps, named, narrowed, numbers_from, parts, without}
 use Rattle.kinds.specs.Laws.{Laws}
@@ -52,7 +56,7 @@ meet_allows (Except s) (Except t) n =
 -- one number more at the front, if the set has it
 front_allows :
     (x : Bool) (k : ℕ) (ks : List ℕ) (n : ℕ) →
-    together fragments (map named (cond x (k ∷ []) [] ++ ks)) n
+    together fragments (map named (cond x (k ∷ ks) ks)) n
     ≡ ((x && k % names == n) || together fragments (map named ks) n)
 front_allows true k ks n = refl
 front_allows false k ks n = refl
@@ -88,25 +92,19 @@ pieces_allow (Except s) n =
     names_allow s.bits 0 names n (omega arith) ∙ range_all (bit s.bits) n (unnamed s n)
     ∙ sym (not-not (bit s.bits n))
 
--- one number more at the front is at most one box more
-front_length :
-    (x : Bool) (k : ℕ) (ks : List ℕ) → length (map named (cond x (k ∷ []) [] ++ ks)) ≤ suc (length (map named ks))
-front_length true k ks = omega arith
-front_length false k ks = omega arith
-
--- there are no more numbers than were gone through
-names_most : (bits k count : ℕ) → length (map named (numbers_from bits k count)) ≤ count
-unfolding numbers_from
-names_most bits k zero = omega arith
-names_most bits k (suc count) =
-    let h = names_most bits (k + 1) count in
-    let g = front_length (bit bits k) k (numbers_from bits (k + 1) count) in
-    omega arith
-
--- so there are no more pieces than names
+-- there are no more pieces than names
 pieces_most : (b : Fragment) → length (parts b) ≤ names
+unfolding numbers_from
 pieces_most (Only a) = omega arith
-pieces_most (Except s) = names_most s.bits 0 names
+pieces_most (Except s) =
+    let all : List ℕ = range_with_len 0 names in
+    omega (
+      arith,
+      length-map (filter (bit s.bits) all) named,
+      length-filter (bit s.bits) all,
+      count_by-le-length (bit s.bits) all,
+      length-range_with_len 0 names,
+    )
 
 -- equal boxes allow the same
 equal_same : (a b : Fragment) → equal a b ≡ true → (n : ℕ) → keeps a n ≡ keeps b n

@@ -1,6 +1,8 @@
 -- The fragments: a box is one nameable number, or all values but a set of nameable numbers.
-use Rattle.std.specs.Prelude.{ℕ, zero, suc, ◌+◌, ◌/◌, ◌%◌, ◌^◌, Bool, true, false, cond, not, List, [], ◌∷◌, ◌++◌, map, Some, None, Option, ◌==◌, bit_or, nat_lt}
+use Rattle.std.specs.Prelude.{ℕ, ◌%◌, ◌^◌, Bool, true, false, cond, not, List, [], ◌∷◌, map, Some, None, Option, ◌==◌, bit_or, nat_lt}
 use Rattle.std.proofs.Common.{arith}
+use Rattle.std.specs.Int.{bit_at}
+use Rattle.std.specs.List.{filter, range_with_len}
 use Rattle.kinds.specs.Model.{Model}
 use Rattle.kinds.specs.Names.{names}
 use Rattle.kinds.specs.declared.fragments.fragment.Fragment.{Fragment}
@@ -9,12 +11,11 @@ use Rattle.kinds.specs.declared.fragments.fragment.Name.{Name}
 
 -- the set has the number k: its bit k is 1
 abbrev pub bit : ℕ → ℕ → Bool
-bit bits k = bits / 2 ^ k % 2 == 1
+bit bits k = bit_at bits k == 1
 
 -- the numbers of the set among the count ones from k on, ascending
 unfoldable pub numbers_from : ℕ → ℕ → ℕ → List ℕ
-numbers_from bits k zero = []
-numbers_from bits k (suc count) = cond (bit bits k) (k ∷ []) [] ++ numbers_from bits (k + 1) count
+numbers_from bits k count = filter (bit bits) (range_with_len k count)
 
 -- the numbers of the set, ascending
 abbrev pub numbers : ℕ → List ℕ

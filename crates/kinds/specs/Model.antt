@@ -1,5 +1,6 @@
 -- What a kind of value means.
-use Rattle.std.specs.Prelude.{ℕ, Bool, false, ◌||◌, List, [], ◌∷◌, Some, None, Option}
+use Rattle.std.specs.Prelude.{ℕ, Bool, false, List, Some, None, Option}
+use Rattle.std.specs.List.{list_any}
 
 -- A kind whose boxes are of the type B.
 pub record Model (B : Type 0) : Type 0 where
@@ -29,5 +30,4 @@ allowed m (Some b) n = m.allows b n
 
 -- one of the boxes allows n
 abbrev pub together : {B : Type 0} → Model B → List B → ℕ → Bool
-together m [] n = false
-together m (b ∷ bs) n = m.allows b n || together m bs n
+together m bs n = list_any (λ b. m.allows b n) bs

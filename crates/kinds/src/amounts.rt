@@ -1,7 +1,6 @@
 // The amounts: the numbers from 0 to the highest, all of them nameable.
-ghost use Rattle.std.specs.Prelude.{◌≡◌, ◌≤◌};
+ghost use Rattle.std.specs.Prelude.{◌≡◌, ◌≤◌, refl};
 ghost use Rattle.kinds.specs.Amounts.{amounts, span};
-ghost use Rattle.kinds.specs.Highest.{highest};
 ghost use Rattle.kinds.specs.AmountLaws.{amounts_laws};
 
 use crate::amounts::span::Span;
@@ -18,8 +17,9 @@ const HIGHEST: u32 = 4_294_967_295;
 
 impl Span {
     // The amounts from `low` to `high`.
+    #[tactic(auto, using(crate::proofs::Spans::span_is))]
     fn new(low: u32, high: u32) -> Span
-        requires { (low ≤ high) × (high ≤ highest) }
+        requires { low ≤ high }
         ensures { result ≡ span low high }
     {
         Span { low, high }
@@ -31,24 +31,20 @@ impl Kind for Amounts {
 
     const PIECES: usize = 2;
 
+    ghost PIECES = { amounts.most };
+
     ghost model = { amounts };
 
-    ghost lawful = { amounts_laws };
+    ghost most_pieces = { refl };
 
-    fn limit() -> usize {
-        Self::PIECES
-    }
+    ghost lawful = { amounts_laws };
 
     fn takes(n: u32) -> bool {
         n <= HIGHEST
     }
 
     fn one(n: u32) -> Option<Span> {
-        if Self::takes(n) {
-            Some(Span::new(n, n))
-        } else {
-            None
-        }
+        Self::takes(n).then(|| Span::new(n, n))
     }
 
     fn all() -> Span {
@@ -58,27 +54,16 @@ impl Kind for Amounts {
     fn meet(a: &Span, b: &Span) -> Option<Span> {
         let low = a.low.max(b.low);
         let high = a.high.min(b.high);
-        if low <= high {
-            Some(Span::new(low, high))
-        } else {
-            None
-        }
+        (low <= high).then(|| Span::new(low, high))
     }
 
     fn piece(b: &Span, i: usize) -> Option<Span> {
-        let lower = b.low > 0;
-        if i == 0 && lower {
-            return Some(Span::new(0, b.low - 1));
-        }
-        // What lies above is the first piece where nothing lies below.
-        let upper = if lower { 1 } else { 0 };
-        if i == upper && b.high < HIGHEST {
-            return Some(Span::new(b.high + 1, HIGHEST));
-        }
-        None
+        let below = b.low.checked_sub(1).map(|high| Span::new(0, high));
+        let above = b.high.checked_add(1).map(|low| Span::new(low, HIGHEST));
+        below.into_iter().chain(above).nth(i)
     }
 
     fn same(a: &Span, b: &Span) -> bool {
-        a.low == b.low && a.high == b.high
+        a == b
     }
 }

@@ -1,5 +1,5 @@
 // The fragments: every whole number is a value, and the first few, from 0 on, are nameable.
-ghost use Rattle.std.specs.Prelude.{◌≡◌, ◌<◌, map};
+ghost use Rattle.std.specs.Prelude.{◌≡◌, ◌<◌, map, refl};
 ghost use Rattle.std.specs.List.{slice_get};
 ghost use Rattle.kinds.specs.Fragments.{bit, fragments, keeps, named, narrowed, numbers, without};
 ghost use Rattle.kinds.specs.Names.{names};
@@ -30,16 +30,10 @@ impl NameSet {
     fn nth(self, i: usize) -> Option<Fragment>
         ensures { result ≡ slice_get (map named (numbers self.bits)) i }
     {
-        let mut left = i;
-        for k in 0..NAMES {
-            if self.has(k) {
-                if left == 0 {
-                    return Some(Fragment::named(k));
-                }
-                left -= 1;
-            }
-        }
-        None
+        (0..NAMES)
+            .filter(|k| self.has(*k))
+            .nth(i)
+            .map(Fragment::named)
     }
 }
 
@@ -59,14 +53,13 @@ impl Fragment {
         Fragment::Except(NameSet { bits })
     }
 
-    // Whether the box allows the nameable number k.
-    fn allows(&self, k: u32) -> bool
-        requires { k < names }
-        ensures { result ≡ keeps self.now k }
+    // Whether the box allows the number of a name.
+    fn allows(&self, name: Name) -> bool
+        ensures { result ≡ keeps self.now name.number }
     {
         match *self {
-            Fragment::Only(x) => x.number == k,
-            Fragment::Except(s) => !s.has(k),
+            Fragment::Only(x) => x == name,
+            Fragment::Except(s) => !s.has(name.number),
         }
     }
 
@@ -74,11 +67,7 @@ impl Fragment {
     fn narrowed(&self, name: Name) -> Option<Fragment>
         ensures { result ≡ narrowed self.now name }
     {
-        if self.allows(name.number) {
-            Some(Fragment::Only(name))
-        } else {
-            None
-        }
+        self.allows(name).then_some(Fragment::Only(name))
     }
 }
 
@@ -87,24 +76,20 @@ impl Kind for Fragments {
 
     const PIECES: usize = NAMES as usize;
 
+    ghost PIECES = { fragments.most };
+
     ghost model = { fragments };
 
-    ghost lawful = { fragments_laws };
+    ghost most_pieces = { refl };
 
-    fn limit() -> usize {
-        Self::PIECES
-    }
+    ghost lawful = { fragments_laws };
 
     fn takes(n: u32) -> bool {
         n < NAMES
     }
 
     fn one(n: u32) -> Option<Fragment> {
-        if Self::takes(n) {
-            Some(Fragment::named(n))
-        } else {
-            None
-        }
+        Self::takes(n).then(|| Fragment::named(n))
     }
 
     fn all() -> Fragment {
@@ -112,38 +97,23 @@ impl Kind for Fragments {
     }
 
     fn meet(a: &Fragment, b: &Fragment) -> Option<Fragment> {
-        match *a {
-            Fragment::Only(x) => b.narrowed(x),
-            Fragment::Except(s) => match *b {
-                Fragment::Only(y) => a.narrowed(y),
-                Fragment::Except(t) => Some(Fragment::without(s.bits | t.bits)),
-            },
+        match (*a, *b) {
+            (Fragment::Only(x), _) => b.narrowed(x),
+            (Fragment::Except(_), Fragment::Only(y)) => a.narrowed(y),
+            (Fragment::Except(s), Fragment::Except(t)) => {
+                Some(Fragment::without(s.bits | t.bits))
+            }
         }
     }
 
     fn piece(b: &Fragment, i: usize) -> Option<Fragment> {
         match *b {
-            Fragment::Only(x) => {
-                if i == 0 {
-                    Some(Fragment::without(1 << x.number))
-                } else {
-                    None
-                }
-            }
+            Fragment::Only(x) => (i == 0).then(|| Fragment::without(1 << x.number)),
             Fragment::Except(s) => s.nth(i),
         }
     }
 
     fn same(a: &Fragment, b: &Fragment) -> bool {
-        match *a {
-            Fragment::Only(x) => match *b {
-                Fragment::Only(y) => x.number == y.number,
-                Fragment::Except(_) => false,
-            },
-            Fragment::Except(s) => match *b {
-                Fragment::Only(_) => false,
-                Fragment::Except(t) => s.bits == t.bits,
-            },
-        }
+        a == b
     }
 }

@@ -1,5 +1,5 @@
 // What every kind of value answers, and what follows for all of them.
-ghost use Rattle.std.specs.Prelude.{◌≡◌};
+ghost use Rattle.std.specs.Prelude.{◌≡◌, ℕ};
 ghost use Rattle.std.specs.List.{slice_get};
 ghost use Rattle.kinds.specs.Consequences.{Consequences};
 ghost use Rattle.kinds.specs.Laws.{Laws};
@@ -13,12 +13,10 @@ pub trait Kind {
     /// The most pieces that a box can have.
     const PIECES: usize;
 
+    ghost PIECES: { ℕ };
+
     // What the calls below answer.
     ghost model: { Model Self.Box };
-
-    /// The number PIECES, as a call: a contract can speak of what it answers.
-    fn limit() -> usize
-        ensures { result ≡ model.most };
 
     /// Whether a label may name the number.
     fn takes(n: u32) -> bool
@@ -44,13 +42,14 @@ pub trait Kind {
     fn same(a: &Self::Box, b: &Self::Box) -> bool
         ensures { result ≡ model.same a.now b.now };
 
+    // PIECES is the model's number.
+    ghost most_pieces: { PIECES ≡ model.most };
+
     // The model is a kind.
     ghost lawful: { Laws model };
 }
 
 /// Does nothing: its contract is the theorem that the laws of a kind give all that the matcher builds on.
-pub fn laws_suffice<K: Kind>() -> u8
+pub fn laws_suffice<K: Kind>()
     ensures { Consequences K.model }
-{
-    0
-}
+{}

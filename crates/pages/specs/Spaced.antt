@@ -1,10 +1,7 @@
 -- Numbers as text, with single spaces between them.
-use Rattle.std.specs.Prelude.{ℕ, Bool, true, false, cond, List, [], ◌∷◌, ◌++◌, codes, decimal}
+use Rattle.std.specs.Prelude.{ℕ, List, codes, decimal}
+use Rattle.std.specs.List.{join_by}
 
--- each number after a space, but the first of all; `first` says that none stands before these
-abbrev pub separated : Bool → List ℕ → List ℕ
-separated first [] = []
-separated first (n ∷ ns) = (cond first [] (codes " ") ++ decimal n) ++ separated false ns
-
+-- the numbers to base ten, with a space between each two
 abbrev pub spaced : List ℕ → List ℕ
-spaced ns = separated true ns
+spaced ns = join_by decimal (codes " ") ns

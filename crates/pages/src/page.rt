@@ -1,6 +1,8 @@
 // The page: the bytes printed so far, and whether a byte has found no room.
-ghost use Rattle.std.specs.Prelude.{◌≤◌, vec_len, vec_capacity};
-ghost use Rattle.pages.specs.Limit.{limit};
+ghost use Rattle.std.specs.Prelude.{ℕ, cond, List, Some, None, Option};
+
+use std::marker::Model;
+use stores::store::Store;
 
 mod reading;
 mod writing;
@@ -8,10 +10,16 @@ mod writing;
 /// The most bytes of a page.
 pub const LIMIT: usize = 65536;
 
+/// Printed bytes. A contract sees the bytes, or none once a byte found no room.
 #[derive(Drop)]
 pub struct Page {
-    bytes: Vec<u8>,
+    bytes: Store<u8, LIMIT>,
+    // Beside the bytes, since their memory has to stay for `clear`.
     over: bool,
-    ghost few: { vec_len bytes ≤ limit },
-    ghost room: { limit ≤ vec_capacity bytes },
+}
+
+impl Model for Page {
+    ghost Value = { Option (List ℕ) };
+
+    ghost view = { λ p. cond p.over None (Some p.bytes) };
 }

@@ -1,5 +1,5 @@
 // Things in memory that is got once, with room for N of them.
-ghost use Rattle.std.specs.Prelude.{◌≡◌, ◌<◌, ◌≤◌, List, [], ◌∷◌, ◌++◌, IfOk, ◌==◌, length, vec_len, vec_capacity};
+ghost use Rattle.std.specs.Prelude.{◌≡◌, ◌<◌, ◌≤◌, [], ◌∷◌, ◌++◌, IfOk, ◌==◌, length};
 
 use std::alloc::{AllocError, Global};
 use std::marker::Model;
@@ -11,11 +11,15 @@ pub struct Store<T, const N: usize> {
 }
 
 impl<T, const N: usize> Model for Store<T, N> {
+    ghost use Rattle.std.specs.Prelude.{List};
+
     ghost Value = { List T };
+
+    ghost use Rattle.stores.specs.Stored.{Stored};
 
     ghost view = { λ s. s.items.items };
 
-    ghost invariant = { λ s. (vec_len s.items ≤ N) × (N ≤ vec_capacity s.items) };
+    ghost invariant = { Stored N };
 }
 
 impl<T, const N: usize> Store<T, N> {
@@ -55,7 +59,8 @@ impl<T, const N: usize> Store<T, N> {
 
     /// Whether there are as many as there may be.
     pub fn is_full(&self) -> bool
-        ensures { result ≡ (length self.now == N) }
+        ensures full { result ≡ (length self.now == N) }
+        ensures few { length self.now ≤ N }
     {
         self.len() == N
     }

@@ -9,6 +9,7 @@ use pages::page::Page;
 impl PrintingKind for Amounts {
     ghost text = { span_text };
 
+    #[tactic(auto, using(pages::proofs::Adding::printing))]
     fn print(b: &Span, page: &mut Page) {
         page.put_number(b.low);
         page.put_all(b"..");

@@ -1,8 +1,7 @@
 // Boxes of fragments as text.
-ghost use Rattle.std.specs.Prelude.{◌≡◌};
 ghost use Rattle.kinds.specs.Fragments.{numbers};
 ghost use Rattle.kinds.specs.Texts.{fragment_text};
-ghost use Rattle.pages.specs.Pages.{add, shown};
+ghost use Rattle.pages.specs.Pages.{Prints};
 ghost use Rattle.pages.specs.Spaced.{spaced};
 
 use crate::fragments::fragment::{Fragment, NameSet};
@@ -12,20 +11,15 @@ use pages::page::Page;
 
 // Prints the numbers of the set, ascending, with single spaces.
 fn put_numbers(set: NameSet, page: &mut Page)
-    ensures { shown page.new ≡ add (shown page.old) (spaced (numbers set.bits)) }
+    ensures { Prints page.old (spaced (numbers set.bits)) page.new }
 {
-    let mut first = true;
-    for k in 0..NAMES {
-        if set.has(k) {
-            page.put_spaced(first, k);
-            first = false;
-        }
-    }
+    page.put_list((0..NAMES).filter(|k| set.has(*k)));
 }
 
 impl PrintingKind for Fragments {
     ghost text = { fragment_text };
 
+    #[tactic(auto, using(pages::proofs::Adding::printing))]
     fn print(b: &Fragment, page: &mut Page) {
         match *b {
             Fragment::Only(x) => {

@@ -1,36 +1,44 @@
 // Printing on a page.
-ghost use Rattle.std.specs.Prelude.{◌≡◌, [], ◌∷◌, ◌++◌, IfOk, if◌then◌else◌, Some, codes, decimal};
-ghost use Rattle.pages.specs.Pages.{Prints, shown};
+ghost use Rattle.std.specs.Prelude.{◌≡◌, [], ◌∷◌, IfOk, Some, decimal};
+ghost use Rattle.std.specs.Iterator.{IsFinite};
+ghost use Rattle.std.specs.Iterator.Runs.{WholeRun};
+ghost use Rattle.pages.specs.Pages.{Prints};
 ghost use Rattle.pages.specs.Records.{as_fields, crlf};
+ghost use Rattle.pages.specs.Spaced.{spaced};
 
 use crate::page::{LIMIT, Page};
 use std::alloc::{AllocError, Global};
+use stores::store::Store;
 
+#[tactic(auto, using(crate::proofs::Adding::printing))]
 impl Page {
     /// An empty page. This gets all the memory that the page will ever need; it fails only for want of it.
     pub fn new(heap: Global) -> Result<Page, AllocError>
-        ensures { IfOk result (λ p. shown p ≡ Some []) }
+        ensures { IfOk result (λ p. p ≡ Some []) }
     {
-        let bytes = Vec::with_capacity(heap, LIMIT)?;
-        Ok(Page { bytes, over: false })
+        Ok(Page {
+            bytes: Store::new(heap)?,
+            over: false,
+        })
     }
 
     /// Takes everything off the page.
     pub fn clear(&mut self)
-        ensures { shown self.new ≡ Some [] }
+        ensures { self.new ≡ Some [] }
     {
         self.bytes.clear();
         self.over = false;
     }
 
     /// Prints one byte.
+    #[tactic(auto, unfolding(crate::specs::Pages::add))]
     pub fn put(&mut self, b: u8)
         ensures { Prints self.old (b ∷ []) self.new }
     {
-        if self.bytes.len() < LIMIT {
-            self.bytes.push_reserved(b);
-        } else {
+        if self.bytes.is_full() {
             self.over = true;
+        } else {
+            self.bytes.push(b);
         }
     }
 
@@ -38,8 +46,8 @@ impl Page {
     pub fn put_all(&mut self, bytes: &[u8])
         ensures { Prints self.old bytes.now self.new }
     {
-        for b in bytes {
-            self.put(*b);
+        for &b in bytes {
+            self.put(b);
         }
     }
 
@@ -53,22 +61,28 @@ impl Page {
         self.put(b'0' + (n % 10) as u8);
     }
 
-    /// Prints one number of a list: a space before it, unless it is the first.
-    pub fn put_spaced(&mut self, first: bool, n: u32)
-        ensures { Prints self.old ((if first then [] else codes " ") ++ decimal n) self.new }
+    /// Prints the numbers that an iterator gives, with single spaces between them.
+    pub fn put_list<I: Iterator<Item = u32> + Drop>(&mut self, mut numbers: I)
+        requires can { I.can_next numbers }
+        requires ends { IsFinite (I.remaining numbers) }
+        ensures { WholeRun I.next_gives numbers (λ p. Prints self.old (spaced p.items) self.new) }
     {
-        if !first {
-            self.put(b' ');
+        if let Some(first) = numbers.next() {
+            self.put_number(first);
+            for n in numbers {
+                self.put(b' ');
+                self.put_number(n);
+            }
         }
-        self.put_number(n);
     }
+
     /// Prints numbers as fields of a record, each after a comma.
     pub fn put_fields(&mut self, numbers: &[u32])
         ensures { Prints self.old (as_fields numbers.now) self.new }
     {
-        for n in numbers {
+        for &n in numbers {
             self.put(b',');
-            self.put_number(*n);
+            self.put_number(n);
         }
     }
 

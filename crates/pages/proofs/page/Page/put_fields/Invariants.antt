@@ -1,10 +1,8 @@
-use Rattle.std.proofs.Common.{◌≡◌, drop}
-use Rattle.pages.specs.Pages.{add, shown}
+use Rattle.std.proofs.Common.{take}
+use Rattle.pages.specs.Pages.{Prints}
 use Rattle.pages.specs.Records.{as_fields}
 use Rattle.pages.proofs.page.Page.put_fields.Given as goal
 
--- what is left to print, printed now, is all of it printed at the start
+-- the numbers up to here are printed
 abbrev pub invariant-loop-n : goal.invariant-loop-n
-invariant-loop-n l =
-    add (shown l.self) (as_fields (drop l.n-index l.numbers)) ≡ add (shown l.initial.self)
-    (as_fields l.numbers)
+invariant-loop-n l = Prints l.initial.self (as_fields (take l.n-index l.numbers)) l.self

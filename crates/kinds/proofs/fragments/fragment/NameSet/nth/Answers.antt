@@ -1,30 +1,25 @@
-use Rattle.std.proofs.Common.{map, sym, ap, ◌∙◌, arith}
-use Rattle.std.specs.List.{slice_get}
-use Rattle.kinds.proofs.NameWalk.{first_in, later_in, rest_all, rest_out}
+use Rattle.std.proofs.Common.{◌≡◌, sym, refl, ap, ◌∙◌, rules}
+use Rattle.std.proofs.iter.runs.Sources.{ranges}
+use Rattle.std.proofs.lemmas.Iterator.{YieldsList-from_range}
+use Rattle.std.proofs.lemmas.Iterator.Consumers.{YieldsList-at, nth_from_yields_List}
+use Rattle.std.proofs.lemmas.Iterator.Adapters.{option_map_id}
+use Rattle.std.proofs.lemmas.Option.{slice_get-map}
+use Rattle.std.specs.Option.{option_map}
+use Rattle.kinds.proofs.NameWalk.{numbers_walked}
+use Rattle.kinds.specs.Fragments.{named, numbers}
+use Rattle.kinds.specs.Names.{names}
 use Rattle.kinds.proofs.fragments.fragment.NameSet.nth.Goals as goal
-use Rattle.kinds.proofs.fragments.fragment.NameSet.nth.Goals.{then-has+else-left-eq0, else-has}
-use Rattle.kinds.specs.Fragments.{named}
 
-pub returns-then-left-eq0 : goal.returns-then-left-eq0
-returns-then-left-eq0 c =
-    let first = first_in c.args.self.bits c.loop-k.k (omega arith) (sym c.if-has.ensures) in cc
-
-pub loop-k-preserved : goal.loop-k-preserved
-loop-k-preserved c =
-    let bits = c.args.self.bits in
-    let k = c.loop-k.k in
-    let left = c.loop-k.left in
-    elim c.if-has.branch [
-      | then-has+else-left-eq0 w ↦
-          let later = later_in bits k (omega arith) left (sym c.has.ensures ∙ w.if-has.true) (omega arith) in cc
-      | else-has w ↦
-          let passed = rest_out bits k (omega arith) (sym c.has.ensures ∙ w.if-has.false) in
-          let e = ap (λ ns. slice_get (map named ns) left) passed in
-          cc
-    ]
+pub map-requires : goal.map-requires
+map-requires c = search (rules, ranges)
 
 pub returns : goal.returns
 returns c =
-    let none = rest_all c.args.self.bits c.loop-k.k c.loop-k-test.false in
-    let e = ap (λ ns. slice_get (map named ns) c.loop-k.left) none in
-    cc
+    let bits = c.args.self.bits in
+    let mapped : c.map.result ≡ option_map named c.nth.result = search rules in
+    let all = YieldsList-at c.filter.ensures.source (YieldsList-from_range 0 names names refl refl) in
+    let found =
+    nth_from_yields_List c.nth.result _ c.args.i c.nth.ensures.ran
+    (numbers_walked _ bits 0 names all c.filter.ensures.closure (λ x b q k. search rules)) in
+    mapped ∙ ap (option_map named) (sym (option_map_id c.nth.result) ∙ found)
+    ∙ sym (slice_get-map named (numbers bits) c.args.i)

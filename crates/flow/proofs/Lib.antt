@@ -1,6 +1,4 @@
 pub mod Walks
-pub mod Numbers
-pub mod Labels
 pub mod Refusing
 pub mod Soundness
 pub mod Loops

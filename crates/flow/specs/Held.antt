@@ -1,8 +1,8 @@
 -- What stands in the tables of the program: the arguments, labels and lines that they hold.
-use Rattle.std.specs.Prelude.{ℕ, List, map, take, Ok, Err, Result}
+use Rattle.std.specs.Prelude.{ℕ, List, map, Ok, Err, Result}
 use Rattle.flow.specs.Graph.{Graph, Label}
 use Rattle.flow.specs.Line as sheet
-use Rattle.flow.specs.declared.arguments.Arguments.{Arguments}
+use Rattle.stores.specs.Listed.{listed}
 use Rattle.flow.specs.declared.edge.Edge.{Edge}
 use Rattle.flow.specs.declared.label.Label as stored
 use Rattle.flow.specs.declared.line.Line as written
@@ -18,9 +18,6 @@ use Rattle.flow.specs.declared.line.Line.TheVariants.{
   SomeUntil,
 }
 use Rattle.flow.specs.declared.refusal.Refusal.{Refusal}
-
-unfoldable pub listed : Arguments → List ℕ
-listed a = take a.count a.numbers
 
 abbrev pub label_of : stored.Label → Label
 label_of l = record { state = l.state; predicate = l.predicate; values = listed l.values }
@@ -39,7 +36,7 @@ line_of (SomeNext a) = sheet.some_next a
 line_of (AllUntil a b) = sheet.all_until a b
 line_of (SomeUntil a b) = sheet.some_until a b
 
--- a line that was asked for, or the refusal
-abbrev pub asked_of : Result written.Line Refusal → Result sheet.Line Refusal
-asked_of (Ok l) = Ok (line_of l)
-asked_of (Err r) = Err r
+-- what was asked for, as it is held, or the refusal
+abbrev pub asked_of : {A B : Type 0} → (A → B) → Result A Refusal → Result B Refusal
+asked_of f (Ok x) = Ok (f x)
+asked_of f (Err r) = Err r

@@ -14,3 +14,4 @@ pub mod Sound
 pub mod Drafts
 pub mod Cases
 pub mod Facts
+pub mod Kept

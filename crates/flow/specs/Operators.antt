@@ -1,6 +1,7 @@
 -- The operators of formula lines: the character of each, and how many numbers a line of it has.
-use Rattle.std.specs.Prelude.{ℕ, ◌+◌, Bool, cond, ◌&&◌, List, [], ◌∷◌, length, Some, None, Option, ◌==◌, nat_le}
+use Rattle.std.specs.Prelude.{ℕ, ◌+◌, Bool, ◌&&◌, List, [], ◌∷◌, length, Option, ◌==◌, nat_le}
 use Rattle.flow.specs.Limits.{most_arguments}
+use Rattle.std.specs.List.{find}
 use Rattle.flow.specs.declared.operator.Operator.{Operator}
 use Rattle.flow.specs.declared.operator.Operator.TheVariants.{
   AllNext,
@@ -63,9 +64,5 @@ operators =
     Predicate ∷ And ∷ Or ∷ Not ∷ Exists ∷ AllNext ∷ SomeNext ∷ AllUntil ∷ SomeUntil ∷ []
 
 -- the first of the operators that has the character
-abbrev pub with_character : ℕ → List Operator → Option Operator
-with_character c [] = None
-with_character c (o ∷ os) = cond (c == character o) (Some o) (with_character c os)
-
 abbrev pub operator_of : ℕ → Option Operator
-operator_of c = with_character c operators
+operator_of c = find (λ o. c == character o) operators

@@ -1,12 +1,10 @@
-// A case: a closed flow graph, and the sheet of formula lines on top of it.
-ghost use Rattle.std.specs.Prelude.{◌≡◌, ◌≤◌, true, map, vec_len, vec_capacity};
-ghost use Rattle.flow.specs.Held.{graph_of, line_of};
-ghost use Rattle.flow.specs.Limits.{most_lines};
-ghost use Rattle.flow.specs.Sound.{sound_closed, sound_sheet};
-
+// A case: a closed flow graph, and the sheet of formula lines on top of it. A contract sees these two.
 use crate::edge::Edge;
 use crate::label::Label;
+use crate::limits::{MOST_CLOSED_EDGES, MOST_LABELS, MOST_LINES};
 use crate::line::Line;
+use std::marker::Model;
+use stores::store::Store;
 
 mod entering;
 mod reading;
@@ -15,11 +13,19 @@ mod reading;
 #[derive(Drop)]
 pub struct Case {
     pub(crate) states: u32,
-    pub(crate) edges: Vec<Edge>,
-    pub(crate) labels: Vec<Label>,
-    pub(crate) lines: Vec<Line>,
-    ghost sound: { sound_closed (graph_of states edges.items labels.items) ≡ true },
-    ghost ordered: { sound_sheet (map line_of lines.items) ≡ true },
-    ghost few_lines: { vec_len lines ≤ most_lines },
-    ghost line_room: { most_lines ≤ vec_capacity lines },
+    pub(crate) edges: Store<Edge, MOST_CLOSED_EDGES>,
+    pub(crate) labels: Store<Label, MOST_LABELS>,
+    pub(crate) lines: Store<Line, MOST_LINES>,
+}
+
+impl Model for Case {
+    ghost use Rattle.flow.specs.Cases.{Content};
+
+    ghost Value = { Content };
+
+    ghost use Rattle.flow.specs.Kept.{Kept, content};
+
+    ghost view = { content };
+
+    ghost invariant = { Kept };
 }

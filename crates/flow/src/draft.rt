@@ -1,12 +1,10 @@
-// A draft: the part of a case that is still being drawn.
-ghost use Rattle.std.specs.Prelude.{◌≡◌, ◌≤◌, true, vec_len, vec_capacity};
-ghost use Rattle.flow.specs.Limits.{most_closed_edges, most_edges, most_labels, most_lines, most_states};
-ghost use Rattle.flow.specs.Held.{graph_of};
-ghost use Rattle.flow.specs.Sound.{sound};
-
+// A draft: the part of a case that is still being drawn. A contract sees the graph so far.
 use crate::edge::Edge;
 use crate::label::Label;
+use crate::limits::{MOST_CLOSED_EDGES, MOST_LABELS, MOST_LINES};
 use crate::line::Line;
+use std::marker::Model;
+use stores::store::Store;
 
 mod building;
 mod closing;
@@ -18,12 +16,19 @@ mod refusing;
 #[derive(Drop)]
 pub struct Draft {
     states: u32,
-    edges: Vec<Edge>,
-    labels: Vec<Label>,
-    lines: Vec<Line>,
-    ghost sound: { sound (graph_of states edges.items labels.items) ≡ true },
-    ghost no_lines: { vec_len lines ≡ 0 },
-    ghost edge_room: { most_closed_edges ≤ vec_capacity edges },
-    ghost label_room: { most_labels ≤ vec_capacity labels },
-    ghost line_room: { most_lines ≤ vec_capacity lines },
+    edges: Store<Edge, MOST_CLOSED_EDGES>,
+    labels: Store<Label, MOST_LABELS>,
+    lines: Store<Line, MOST_LINES>,
+}
+
+impl Model for Draft {
+    ghost use Rattle.flow.specs.Graph.{Graph};
+
+    ghost Value = { Graph };
+
+    ghost use Rattle.flow.specs.Drafts.{Sketched, sketch};
+
+    ghost view = { sketch };
+
+    ghost invariant = { Sketched };
 }

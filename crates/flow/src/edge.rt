@@ -2,7 +2,7 @@
 ghost use Rattle.std.specs.Prelude.{◌≡◌};
 ghost use Rattle.flow.specs.Drawn.{is_edge};
 
-#[derive(Clone, Copy)]
+#[derive(Clone, Copy, PartialEq, Eq, Debug)]
 pub struct Edge {
     pub from: u32,
     pub to: u32,
@@ -13,6 +13,6 @@ impl Edge {
     pub(crate) fn joins(&self, from: u32, to: u32) -> bool
         ensures { result ≡ is_edge from to self.now }
     {
-        self.from == from && self.to == to
+        *self == Edge { from, to }
     }
 }

@@ -5,6 +5,7 @@ ghost use Rattle.flow.specs.Held.{label_of};
 
 use crate::arguments::Arguments;
 
+// No derived comparison: it would compare the places beyond the count of the values too.
 #[derive(Clone, Copy)]
 pub struct Label {
     pub state: u32,
@@ -17,9 +18,6 @@ impl Label {
     pub(crate) fn says(&self, state: u32, predicate: u32, values: &[u32]) -> bool
         ensures { result ≡ is_label state predicate values.now (label_of self.now) }
     {
-        if self.state != state || self.predicate != predicate {
-            return false;
-        }
-        self.values.as_slice() == values
+        self.state == state && self.predicate == predicate && self.values.as_slice() == values
     }
 }

@@ -7,7 +7,7 @@ pub const MOST_STATES: u32 = 256;
 pub const MOST_EDGES: usize = 512;
 
 /// The most edges of a closed case: closing may add one for each state.
-pub const MOST_CLOSED_EDGES: usize = 768;
+pub const MOST_CLOSED_EDGES: usize = MOST_EDGES + MOST_STATES as usize;
 
 /// The most labels.
 pub const MOST_LABELS: usize = 512;

@@ -1,16 +1,16 @@
 // A formula line: an operator with its operands. Lines are named by their numbers on the sheet.
-ghost use Rattle.std.specs.Prelude.{◌≡◌, true, nat_lt};
+ghost use Rattle.std.specs.Prelude.{◌≡◌, true};
 ghost use Rattle.flow.specs.Held.{asked_of, line_of};
 ghost use Rattle.flow.specs.Line.{made as spelled, operator as headed_by};
 ghost use Rattle.flow.specs.Operators.{counted, operator_of};
 ghost use Rattle.flow.specs.Sheet.{right as sits, worded};
-ghost use Rattle.std.specs.List.{list_all};
 
 use crate::arguments::Arguments;
 use crate::limits::{PREDICATES, VARIABLES};
 use crate::operator::{Operator, Shape};
 use crate::refusal::Refusal;
 
+// No derived comparison: it would compare the places beyond the count of the variables too.
 #[derive(Clone, Copy)]
 pub enum Line {
     Predicate {
@@ -48,20 +48,9 @@ pub enum Line {
     },
 }
 
-// Whether each number is below the bound.
-fn all_below(numbers: &[u32], bound: u32) -> bool
-    ensures { result ≡ list_all (λ n. nat_lt n bound) numbers.now }
-{
-    for n in numbers {
-        if *n >= bound {
-            return false;
-        }
-    }
-    true
-}
-
 impl Line {
-    // The line of the operator and its numbers, which the caller has counted.
+    // The line of the operator and its numbers, which the caller has counted: so by index, since slice patterns would
+    // ask again what the shape says of their count.
     fn of(operator: Operator, numbers: &[u32]) -> Line
         requires { counted operator numbers.now ≡ true }
         ensures { line_of result ≡ spelled operator numbers.now }
@@ -69,7 +58,7 @@ impl Line {
         match operator {
             Operator::Predicate => Line::Predicate {
                 predicate: numbers[0],
-                variables: Arguments::copied(&numbers[1..]),
+                variables: Arguments::try_from(&numbers[1..]).unwrap(),
             },
             Operator::And => Line::And {
                 left: numbers[0],
@@ -99,18 +88,17 @@ impl Line {
 
     // The line that a character and numbers ask for, wherever it may stand.
     pub(crate) fn worded(character: char, numbers: &[u32]) -> Result<Line, Refusal>
-        ensures { asked_of result ≡ worded (operator_of character) numbers.now }
+        ensures { asked_of line_of result ≡ worded (operator_of character) numbers.now }
     {
-        let Some(shape) = Shape::of(character) else {
-            return Err(Refusal::UnknownOperator);
-        };
-        if numbers.len() < shape.fewest || shape.most < numbers.len() {
+        let shape = Shape::try_from(character)?;
+        if !shape.takes(numbers.len()) {
             return Err(Refusal::BadOperand);
         }
         Ok(Line::of(shape.operator, numbers))
     }
 
     /// The line's operator.
+    // A table: each variant has an operator of its own.
     pub fn operator(&self) -> Operator
         ensures { result ≡ headed_by (line_of self.now) }
     {
@@ -135,15 +123,19 @@ impl Line {
             Line::Predicate {
                 predicate,
                 variables,
-            } => predicate < PREDICATES && all_below(variables.as_slice(), VARIABLES),
-            Line::And { left, right } => left < lines && right < lines,
-            Line::Or { left, right } => left < lines && right < lines,
-            Line::Not { line } => line < lines,
+            } => { predicate < PREDICATES && variables.as_slice().iter().all(|v| *v < VARIABLES) }
+            Line::And { left, right }
+            | Line::Or { left, right }
+            | Line::AllUntil {
+                until: left,
+                goal: right,
+            }
+            | Line::SomeUntil {
+                until: left,
+                goal: right,
+            } => left < lines && right < lines,
+            Line::Not { line } | Line::AllNext { line } | Line::SomeNext { line } => line < lines,
             Line::Exists { variable, line } => variable < VARIABLES && line < lines,
-            Line::AllNext { line } => line < lines,
-            Line::SomeNext { line } => line < lines,
-            Line::AllUntil { until, goal } => until < lines && goal < lines,
-            Line::SomeUntil { until, goal } => until < lines && goal < lines,
         }
     }
 }

@@ -1,11 +1,13 @@
 // The operators of formula lines: their characters, and how many numbers a line of each has.
-ghost use Rattle.std.specs.Prelude.{◌≡◌};
+ghost use Rattle.std.specs.Prelude.{◌≡◌, ◌&&◌, nat_le};
 ghost use Rattle.flow.specs.Operators.{character as written, operator_of, shape_of};
-ghost use Rattle.std.specs.Option.{option_map};
+ghost use Rattle.flow.specs.declared.refusal.Refusal.TheVariants.{UnknownOperator};
+ghost use Rattle.std.specs.Option.{option_map, ok_or};
 
 use crate::limits::MOST_ARGUMENTS;
+use crate::refusal::Refusal;
 
-#[derive(Clone, Copy)]
+#[derive(Clone, Copy, PartialEq, Eq, Debug)]
 pub enum Operator {
     /// A predicate holds of some variables: `P`.
     Predicate,
@@ -28,7 +30,7 @@ pub enum Operator {
 }
 
 /// How a line of an operator is written: from `fewest` to `most` numbers follow it.
-#[derive(Clone, Copy)]
+#[derive(Clone, Copy, PartialEq, Eq, Debug)]
 pub struct Shape {
     pub operator: Operator,
     pub fewest: usize,
@@ -47,35 +49,47 @@ impl Shape {
         }
     }
 
-    /// The shape of the lines that begin with the character, if it is an operator.
-    pub fn of(character: char) -> Option<Shape>
-        ensures { result ≡ option_map shape_of (operator_of character) }
+    // Whether a line of the operator may have so many numbers.
+    pub(crate) fn takes(&self, count: usize) -> bool
+        ensures { result ≡ (nat_le self.now.fewest count && nat_le count self.now.most) }
     {
+        (self.fewest..=self.most).contains(&count)
+    }
+}
+
+// The shape of the lines that begin with the character, if it is an operator.
+impl TryFrom<char> for Shape {
+    type Error = Refusal;
+
+    ghost try_from_gives = { λ character result.
+        result ≡ ok_or (option_map shape_of (operator_of character)) UnknownOperator };
+
+    fn try_from(character: char) -> Result<Shape, Refusal> {
         match character {
-            'P' => Some(Shape {
+            'P' => Ok(Shape {
                 operator: Operator::Predicate,
                 fewest: 1,
                 most: 1 + MOST_ARGUMENTS,
             }),
-            '&' => Some(Shape::fixed(Operator::And, 2)),
-            '|' => Some(Shape::fixed(Operator::Or, 2)),
-            '!' => Some(Shape::fixed(Operator::Not, 1)),
-            'Q' => Some(Shape::fixed(Operator::Exists, 2)),
-            'X' => Some(Shape::fixed(Operator::AllNext, 1)),
-            'N' => Some(Shape::fixed(Operator::SomeNext, 1)),
-            'A' => Some(Shape::fixed(Operator::AllUntil, 2)),
-            'U' => Some(Shape::fixed(Operator::SomeUntil, 2)),
-            _ => None,
+            '&' => Ok(Shape::fixed(Operator::And, 2)),
+            '|' => Ok(Shape::fixed(Operator::Or, 2)),
+            '!' => Ok(Shape::fixed(Operator::Not, 1)),
+            'Q' => Ok(Shape::fixed(Operator::Exists, 2)),
+            'X' => Ok(Shape::fixed(Operator::AllNext, 1)),
+            'N' => Ok(Shape::fixed(Operator::SomeNext, 1)),
+            'A' => Ok(Shape::fixed(Operator::AllUntil, 2)),
+            'U' => Ok(Shape::fixed(Operator::SomeUntil, 2)),
+            _ => Err(Refusal::UnknownOperator),
         }
     }
 }
 
-impl Operator {
-    /// The operator's character.
-    pub fn character(self) -> u8
-        ensures { result ≡ written self }
-    {
-        match self {
+// The operator's character.
+impl From<Operator> for u8 {
+    ghost from_gives = { λ operator result. result ≡ written operator };
+
+    fn from(operator: Operator) -> u8 {
+        match operator {
             Operator::Predicate => b'P',
             Operator::And => b'&',
             Operator::Or => b'|',

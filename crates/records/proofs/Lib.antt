@@ -1,10 +1,4 @@
 pub mod Stretches
-pub mod Strays
 pub mod Scans
-pub mod Splits
-pub mod Cuts
-pub mod Places
 pub mod Digits
-pub mod Forms
 pub mod Collected
-pub mod Calls

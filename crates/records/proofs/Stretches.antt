@@ -1,6 +1,6 @@
 -- Laws of the stretches of a text: its records and fields, byte by byte.
 use Rattle.std.proofs.Common.{◌≡◌, ℕ, ◌<◌, Bool, true, false, cond, ◌&&◌, eqb, List, [], ◌∷◌, ◌++◌, length, get_or, sym, refl, ap, append_assoc, arith}
-use Rattle.records.specs.Texts.{ahead, records, fields}
+use Rattle.records.specs.Texts.{ahead, records}
 
 -- bytes ahead of a byte
 pub ahead_push : (p : List ℕ) (b : ℕ) (s : List (List ℕ)) → ahead p (ahead (b ∷ []) s) ≡ ahead (p ++ b ∷ []) s
@@ -39,20 +39,3 @@ records_on b (c ∷ rest) h = rw h
 pub records_crlf : (rest : List ℕ) → records (13 ∷ 10 ∷ rest) ≡ [] ∷ records rest
 unfolding records
 records_crlf rest = refl
-
--- a record has a field
-pub fields_some : (text : List ℕ) → 0 < length (fields text)
-unfolding fields
-fields_some [] = omega arith
-fields_some (b ∷ rest) =
-    cond_some (eqb b 44) ([] ∷ fields rest) _ (omega arith) (ahead_some (b ∷ []) (fields rest))
-
--- a byte that is no comma belongs to the field
-pub fields_on : (b : ℕ) (rest : List ℕ) → eqb b 44 ≡ false → fields (b ∷ rest) ≡ ahead (b ∷ []) (fields rest)
-unfolding fields
-fields_on b rest h = rw h
-
--- a comma ends the field
-pub fields_comma : (b : ℕ) (rest : List ℕ) → eqb b 44 ≡ true → fields (b ∷ rest) ≡ [] ∷ fields rest
-unfolding fields
-fields_comma b rest h = rw h

@@ -34,10 +34,11 @@ abbrev pub formed : Option Letter → List (List ℕ) → Option Letter
 formed None fs = None
 formed (Some letter) fs = cond (fits letter fs) (Some letter) None
 
--- the letter that the first field is, unless the record is broken, as `bad` says, or has not its form
-unfoldable pub asked_letter : Bool → List ℕ → Result Letter Fault
-asked_letter bad text =
-    let fs = fields text in cond bad (Err Broken) (ok_or (formed (letter_of (slice_index_or fs 0 [])) fs) Form)
+-- the letter that the first field is, unless the record is broken or has not its form
+unfoldable pub asked_letter : List ℕ → Result Letter Fault
+asked_letter text =
+    let fs = fields text in
+    cond (broken text) (Err Broken) (ok_or (formed (letter_of (slice_index_or fs 0 [])) fs) Form)
 
 -- a number ahead of others, unless one of those was bad
 abbrev pub onto : ℕ → Result (List ℕ) Fault → Result (List ℕ) Fault
@@ -62,7 +63,8 @@ called (Some call) operator (Err fault) = Err fault
 -- what the letter asks with the fields, in a phase that has these calls
 abbrev pub asked_by : {C : Type 0} (calls : Letter → Option (ℕ → List ℕ → C))
     → List (List ℕ) → Result Letter Fault → Result C Fault
-asked_by calls fs (Ok letter) = called (calls letter) (unwrap_or (only (slice_index_or fs 1 [])) 0) (numbers_of letter fs)
+asked_by calls fs (Ok letter) =
+    called (calls letter) (unwrap_or (only (slice_index_or fs 1 [])) 0) (numbers_of letter fs)
 asked_by calls fs (Err fault) = Err fault
 
 -- S, E, L and C are calls of the draft
@@ -83,17 +85,10 @@ sheet_calls Close = None
 sheet_calls Line = Some (λ operator ns. line operator ns)
 sheet_calls Check = Some (λ _ ns. check (slice_index ns 0))
 
--- what a record asks of a draft; `bad` says that the record is broken
-abbrev pub asked_of_draft : Bool → List ℕ → Result DraftCall Fault
-asked_of_draft bad text = asked_by draft_calls (fields text) (asked_letter bad text)
-
--- what it asks of a closed case
-abbrev pub asked_of_case : Bool → List ℕ → Result SheetCall Fault
-asked_of_case bad text = asked_by sheet_calls (fields text) (asked_letter bad text)
-
--- what a text asks for as a record
+-- what a text asks of a draft as a record
 abbrev pub draft_call : List ℕ → Result DraftCall Fault
-draft_call text = asked_of_draft (broken text) text
+draft_call text = asked_by draft_calls (fields text) (asked_letter text)
 
+-- and what it asks of a closed case
 abbrev pub sheet_call : List ℕ → Result SheetCall Fault
-sheet_call text = asked_of_case (broken text) text
+sheet_call text = asked_by sheet_calls (fields text) (asked_letter text)

@@ -1,5 +1,6 @@
 -- The letters of the calls.
-use Rattle.std.specs.Prelude.{ℕ, true, false, cond, List, [], ◌∷◌, Some, None, Option, ◌==◌}
+use Rattle.std.specs.Prelude.{ℕ, true, false, List, [], ◌∷◌, None, Option, ◌==◌}
+use Rattle.std.specs.List.{find}
 use Rattle.records.specs.Limits.{most_fields}
 use Rattle.records.specs.declared.letter.Letter.{Letter}
 use Rattle.records.specs.declared.letter.Letter.TheVariants.{State, Edge, Label, Close, Line, Check}
@@ -27,13 +28,8 @@ shape Check = record { least = 2; most = 2; operator = false }
 abbrev pub letters : List Letter
 letters = State ∷ Edge ∷ Label ∷ Close ∷ Line ∷ Check ∷ []
 
--- the letter among these that has the byte
-abbrev pub among : List Letter → ℕ → Option Letter
-among [] b = None
-among (letter ∷ more) b = cond (b == byte_of letter) (Some letter) (among more b)
-
 -- the letter that a field is: one byte, and that of a letter
 abbrev pub letter_of : List ℕ → Option Letter
 letter_of [] = None
-letter_of (b ∷ []) = among letters b
+letter_of (b ∷ []) = find (λ letter. b == byte_of letter) letters
 letter_of (b ∷ c ∷ rest) = None

@@ -3,7 +3,6 @@ pub mod Texts
 pub mod Scanned
 pub mod Next
 pub mod Numbers
-pub mod Listed
 pub mod Letters
 pub mod Faults
 pub mod Asked

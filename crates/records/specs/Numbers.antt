@@ -1,5 +1,6 @@
 -- What a number is in a text.
-use Rattle.std.specs.Prelude.{ℕ, ◌+◌, ◌-◌, ◌*◌, Bool, true, cond, ◌&&◌, List, [], ◌∷◌, Some, None, Option, ◌==◌, nat_le}
+use Rattle.std.specs.List.{fold, list_all}
+use Rattle.std.specs.Prelude.{ℕ, ◌+◌, ◌-◌, ◌*◌, Bool, cond, ◌&&◌, List, [], ◌∷◌, Some, None, Option, ◌==◌, nat_le}
 
 -- the largest number
 abbrev pub largest : ℕ
@@ -10,14 +11,12 @@ abbrev pub digit : ℕ → Bool
 digit b = nat_le 48 b && nat_le b 57
 
 -- each byte is a digit
-unfoldable pub digits : List ℕ → Bool
-digits [] = true
-digits (b ∷ rest) = digit b && digits rest
+abbrev pub digits : List ℕ → Bool
+digits text = list_all digit text
 
 -- what digits say to base ten, after digits that said n
-unfoldable pub value : ℕ → List ℕ → ℕ
-value n [] = n
-value n (b ∷ rest) = value (n * 10 + (b - 48)) rest
+abbrev pub value : ℕ → List ℕ → ℕ
+value n text = fold (λ m b. m * 10 + (b - 48)) n text
 
 -- the same, where these are digits and what they say is not too large
 abbrev pub said : ℕ → List ℕ → Option ℕ

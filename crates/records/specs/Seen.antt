@@ -6,7 +6,7 @@ use Rattle.records.specs.declared.call.DraftCall.TheVariants.{State, Edge, Label
 use Rattle.records.specs.declared.call.SheetCall as declared_sheet
 use Rattle.records.specs.declared.call.SheetCall.TheVariants.{Line, Check}
 use Rattle.records.specs.Asked.{DraftCall, build, close, SheetCall, line, check}
-use Rattle.records.specs.Listed.{listed}
+use Rattle.stores.specs.Listed.{listed}
 
 -- a call on the draft
 abbrev pub draft_seen : declared_draft.DraftCall → DraftCall

@@ -1,6 +1,6 @@
 -- What the records of a text and the fields of a record are. A text is the list of its bytes.
-use Rattle.std.specs.Prelude.{ℕ, zero, suc, Bool, false, cond, ◌&&◌, ◌||◌, List, [], ◌∷◌, ◌++◌, Some, None, Option, ◌==◌}
-use Rattle.std.specs.List.{slice_get}
+use Rattle.std.specs.Prelude.{ℕ, zero, suc, Bool, cond, ◌&&◌, ◌||◌, List, [], ◌∷◌, ◌++◌, Some, None, Option, ◌==◌}
+use Rattle.std.specs.List.{list_any, slice_get, slice_split}
 
 -- some bytes, put ahead of the first of the stretches
 abbrev pub ahead : List ℕ → List (List ℕ) → List (List ℕ)
@@ -14,9 +14,8 @@ records (b ∷ []) = (b ∷ []) ∷ []
 records (b ∷ c ∷ rest) = cond (b == 13 && c == 10) ([] ∷ records rest) (ahead (b ∷ []) (records (c ∷ rest)))
 
 -- the fields of a record: the stretches between its commas (byte 44)
-unfoldable pub fields : List ℕ → List (List ℕ)
-fields [] = [] ∷ []
-fields (b ∷ rest) = cond (b == 44) ([] ∷ fields rest) (ahead (b ∷ []) (fields rest))
+abbrev pub fields : List ℕ → List (List ℕ)
+fields text = slice_split (λ b. b == 44) text
 
 -- the field of this number, where the record has one: the first field has the number 1
 abbrev pub field_at : List ℕ → ℕ → Option (List ℕ)
@@ -34,6 +33,5 @@ abbrev pub stray : ℕ → Bool
 stray b = b == 13 || (b == 10 || b == 34)
 
 -- a record is broken when it has a stray byte
-unfoldable pub broken : List ℕ → Bool
-broken [] = false
-broken (b ∷ rest) = stray b || broken rest
+abbrev pub broken : List ℕ → Bool
+broken text = list_any stray text

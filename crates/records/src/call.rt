@@ -1,5 +1,12 @@
 // The calls that records ask for.
-use crate::numbers::Numbers;
+// They derive no comparison, which would look at each place of the numbers, and at those beyond the count too.
+use crate::letter::MOST_FIELDS;
+
+// The first of the fields is the letter.
+pub const MOST_NUMBERS: usize = MOST_FIELDS - 1;
+
+/// The numbers of a call, in their order.
+pub type Numbers = stores::numbers::Numbers<MOST_NUMBERS>;
 
 /// The calls on a draft.
 #[derive(Clone, Copy)]

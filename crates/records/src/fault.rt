@@ -3,7 +3,7 @@ ghost use Rattle.std.specs.Prelude.{◌≡◌};
 ghost use Rattle.records.specs.Faults.{fault_field, fault_number};
 
 /// The faults. Of several in one record the first of these is told.
-#[derive(Clone, Copy)]
+#[derive(Clone, Copy, PartialEq, Eq, Debug)]
 pub enum Fault {
     /// A stray CR, LF or quote.
     Broken,
@@ -17,6 +17,7 @@ pub enum Fault {
 
 impl Fault {
     /// The number by which the fault is told.
+    // By a match: `as` gives the numbers of an enum only where no variant has a field.
     pub fn number(self) -> u8
         ensures { result ≡ fault_number self }
     {
@@ -29,6 +30,7 @@ impl Fault {
     }
 
     /// The number of the field at fault, or 0 where the whole record is.
+    // The 0 is told too: it stands in the field's place.
     pub fn field(self) -> u32
         ensures { result ≡ fault_field self }
     {

@@ -1,5 +1,5 @@
 // The form of a record: a known letter, as many fields as it allows, and an operator of one byte if it has one.
-ghost use Rattle.std.specs.Prelude.{◌≡◌, [], slice_index_or};
+ghost use Rattle.std.specs.Prelude.{◌≡◌, [], IfOk, IsTrue, slice_index_or};
 ghost use Rattle.records.specs.Asked.{asked_letter, fits};
 ghost use Rattle.records.specs.Texts.{fields, only};
 
@@ -22,26 +22,23 @@ fn has_form(record: &Record, letter: Letter) -> bool
     ensures { result ≡ fits letter (fields «record».now.text.now) }
 {
     let shape = letter.shape();
-    if !record.has_field(shape.least) || record.has_field(shape.most + 1) {
-        return false;
-    }
-    !shape.operator || operator_of(record).is_some()
+    (shape.least..=shape.most).contains(&record.field_count())
+        && (!shape.operator || operator_of(record).is_some())
 }
 
 // The letter of a record that is not broken and has the letter's form.
+#[tactic(auto, unfolding(crate::specs::Asked::asked_letter))]
 pub fn letter_of(record: &Record) -> Result<Letter, Fault>
-    ensures { let of = «record».now in
-        result ≡ asked_letter of.strays of.text.now }
+    ensures asked { result ≡ asked_letter «record».now.text.now }
+    ensures fits { let of = «record».now in
+        IfOk result (λ letter. IsTrue (fits letter (fields of.text.now))) }
 {
     if record.strays {
         return Err(Fault::Broken);
     }
-    let Some(letter) = Letter::read(record.bytes(1)) else {
+    let letter = Letter::try_from(record.bytes(1))?;
+    if !has_form(record, letter) {
         return Err(Fault::Form);
-    };
-    if has_form(record, letter) {
-        Ok(letter)
-    } else {
-        Err(Fault::Form)
     }
+    Ok(letter)
 }

@@ -1,8 +1,12 @@
 // The letters of the calls: `S` state, `E` edge, `L` label, `C` close, `F` line, `K` check.
 ghost use Rattle.std.specs.Prelude.{◌≡◌};
+ghost use Rattle.std.specs.Option.{ok_or};
 ghost use Rattle.records.specs.Letters.{letter_of, shape};
+ghost use Rattle.records.specs.declared.fault.Fault.TheVariants.{Form};
 
-#[derive(Clone, Copy)]
+use crate::fault::Fault;
+
+#[derive(Clone, Copy, PartialEq, Eq, Debug)]
 pub enum Letter {
     State,
     Edge,
@@ -13,61 +17,51 @@ pub enum Letter {
 }
 
 // No record that is a call has more fields.
-pub const MOST_FIELDS: u32 = 7;
+pub const MOST_FIELDS: usize = 7;
 
-// How many fields the record of a letter has, and whether the second one is an operator.
-#[derive(Clone, Copy)]
+// How many fields the record of a letter has, and whether the second one is an operator: a flag, since the counts do
+// not tell it.
+#[derive(Clone, Copy, PartialEq, Eq, Debug)]
 pub struct Shape {
-    pub least: u32,
-    pub most: u32,
+    pub least: usize,
+    pub most: usize,
     pub operator: bool,
 }
 
-impl Letter {
-    // The letter that a field is.
-    pub fn read(field: &[u8]) -> Option<Letter>
-        ensures { result ≡ letter_of field.now }
-    {
+// The letter that a field is.
+impl TryFrom<&[u8]> for Letter {
+    type Error = Fault;
+
+    ghost try_from_gives = { λ field result. result ≡ ok_or (letter_of field.now) Form };
+
+    fn try_from(field: &[u8]) -> Result<Letter, Fault> {
         match field {
-            [b'S'] => Some(Letter::State),
-            [b'E'] => Some(Letter::Edge),
-            [b'L'] => Some(Letter::Label),
-            [b'C'] => Some(Letter::Close),
-            [b'F'] => Some(Letter::Line),
-            [b'K'] => Some(Letter::Check),
-            _ => None,
+            b"S" => Ok(Letter::State),
+            b"E" => Ok(Letter::Edge),
+            b"L" => Ok(Letter::Label),
+            b"C" => Ok(Letter::Close),
+            b"F" => Ok(Letter::Line),
+            b"K" => Ok(Letter::Check),
+            _ => Err(Fault::Form),
         }
     }
+}
 
+impl Letter {
     pub fn shape(self) -> Shape
         ensures { result ≡ shape self }
     {
-        match self {
-            Letter::State | Letter::Close => Shape {
-                least: 1,
-                most: 1,
-                operator: false,
-            },
-            Letter::Edge => Shape {
-                least: 3,
-                most: 3,
-                operator: false,
-            },
-            Letter::Label => Shape {
-                least: 3,
-                most: MOST_FIELDS,
-                operator: false,
-            },
-            Letter::Line => Shape {
-                least: 3,
-                most: MOST_FIELDS,
-                operator: true,
-            },
-            Letter::Check => Shape {
-                least: 2,
-                most: 2,
-                operator: false,
-            },
+        let (least, most) = match self {
+            Letter::State | Letter::Close => (1, 1),
+            Letter::Check => (2, 2),
+            Letter::Edge => (3, 3),
+            Letter::Label | Letter::Line => (3, MOST_FIELDS),
+        };
+        let operator = self == Letter::Line;
+        Shape {
+            least,
+            most,
+            operator,
         }
     }
 }

@@ -2,23 +2,17 @@
 ghost use Rattle.std.specs.Prelude.{◌≡◌};
 ghost use Rattle.records.specs.Numbers.{number_of, said};
 
-const LARGEST: u64 = 4_294_967_295;
-
-// What the digits say, where they are digits. It stops as soon as that is too large, so nothing wraps.
+// What the digits say, where they are digits and that is not too large.
+#[tactic(auto, using(crate::proofs::Digits::said_laws))]
 fn read_digits(text: &[u8]) -> Option<u32>
     ensures { result ≡ said 0 text.now }
 {
-    let mut value: u64 = 0;
+    let mut value: u32 = 0;
     for byte in text {
-        if !byte.is_ascii_digit() {
-            return None;
-        }
-        value = value * 10 + (*byte - b'0') as u64;
-        if value > LARGEST {
-            return None;
-        }
+        let digit = char::from(*byte).to_digit(10)?;
+        value = value.checked_mul(10)?.checked_add(digit)?;
     }
-    Some(value as u32)
+    Some(value)
 }
 
 // The number that a field is.

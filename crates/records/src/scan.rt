@@ -3,16 +3,18 @@ ghost use Rattle.std.specs.Prelude.{◌<◌, length};
 ghost use Rattle.records.specs.Scanned.{Cuts, Steps};
 
 // What was read: text, text and a CR that may begin a CRLF, or a record with its CRLF.
-// `strays` says whether a stray byte stood in the text.
-#[derive(Clone, Copy)]
+// `strays` says whether a stray byte stood in the text: a flag in each state, since the match below looks at the state
+// and the next byte together.
+#[derive(Clone, Copy, PartialEq, Eq, Debug)]
 pub enum Scan {
     Text { strays: bool },
     AfterCr { strays: bool },
     Ended { strays: bool },
 }
 
-// The first record of a text: its length, the place behind its CRLF, and whether it has a stray byte.
-#[derive(Clone, Copy)]
+// The first record of a text: its length, the place behind its CRLF, and whether it has a stray byte, for the record
+// to hold.
+#[derive(Clone, Copy, PartialEq, Eq, Debug)]
 pub struct Cut {
     pub size: usize,
     pub end: usize,
@@ -41,6 +43,7 @@ pub fn first_cut(left: &[u8]) -> Cut
     ensures { Cuts left.now result.size result.end result.strays }
 {
     let mut scan = Scan::Text { strays: false };
+    // With its place, which is what is looked for.
     for (at, byte) in left.iter().enumerate() {
         scan = step(scan, *byte);
         if let Scan::Ended { strays } = scan {

@@ -2,6 +2,7 @@
 // A record ends at a CRLF, and the last one may lack it. A CRLF at the very end of the text starts no further
 // record, and an empty text has none; elsewhere an empty record is a record too.
 ghost use Rattle.std.specs.Prelude.{◌≡◌, ◌+◌, ◌^◌, ◌<◌, length};
+ghost use Rattle.std.specs.Iterator.{item_count};
 ghost use Rattle.records.specs.Next.{Next};
 
 use crate::record::Record;
@@ -26,19 +27,24 @@ impl<'a> Splitter<'a> {
             count: 0,
         }
     }
+}
 
-    /// The next record, or `None` where nothing is left.
-    pub fn next(&mut self) -> Option<Record<'a>>
-        ensures { let from = self.old in let to = self.new in
-            Next from.left.now from.count result to.left.now to.count }
-    {
+/// The records that are left.
+impl<'a> Iterator for Splitter<'a> {
+    type Item = Record<'a>;
+
+    ghost next_gives = { λ from answer to. Next from.left.now from.count answer to.left.now to.count };
+
+    ghost remaining = { item_count (λ s. s.left.now) };
+
+    #[tactic(auto, unfolding(crate::specs::Texts::records))]
+    fn next(&mut self) -> Option<Record<'a>> {
         if self.left.is_empty() {
             return None;
         }
-        let left = self.left;
-        let Cut { size, end, strays } = first_cut(left);
-        let text = &left[0..size];
-        self.left = &left[end..];
+        let Cut { size, end, strays } = first_cut(self.left);
+        let text = &self.left[..size];
+        self.left = &self.left[end..];
         self.count += 1;
         let number = self.count;
         Some(Record {

@@ -1,6 +1,5 @@
 // What a case holds.
 ghost use Rattle.std.specs.Prelude.{◌≡◌, ◌≤◌, map, length};
-ghost use Rattle.flow.specs.Cases.{graph_in, lines_in};
 ghost use Rattle.flow.specs.Facts.{Ordered};
 ghost use Rattle.flow.specs.Graph.{successors};
 ghost use Rattle.flow.specs.Held.{label_of, line_of};
@@ -15,14 +14,14 @@ use crate::line::Line;
 impl Case {
     /// How many states there are: they are the numbers below this.
     pub fn states(&self) -> u32
-        ensures { result ≡ (graph_in self.now).states }
+        ensures { result ≡ self.now.graph.states }
     {
         self.states
     }
 
     /// The edges, those that were drawn first.
     pub fn edges(&self) -> &[Edge]
-        ensures drawn { result.now ≡ (graph_in self.now).edges }
+        ensures drawn { result.now ≡ self.now.graph.edges }
         ensures few { length result.now ≤ most_closed_edges }
     {
         self.edges.as_slice()
@@ -30,23 +29,18 @@ impl Case {
 
     /// The i-th successor of a state, in edge order, or none past the last.
     pub fn successor(&self, state: u32, i: usize) -> Option<u32>
-        ensures { result ≡ slice_get (successors (graph_in self.now) state) i }
+        ensures { result ≡ slice_get (successors self.now.graph state) i }
     {
-        let mut left = i;
-        for edge in self.edges() {
-            if edge.from == state {
-                if left == 0 {
-                    return Some(edge.to);
-                }
-                left -= 1;
-            }
-        }
-        None
+        self.edges()
+            .iter()
+            .filter(|edge| edge.from == state)
+            .map(|edge| edge.to)
+            .nth(i)
     }
 
     /// The labels, in the order of entry.
     pub fn labels(&self) -> &[Label]
-        ensures entered { map label_of result.now ≡ (graph_in self.now).labels }
+        ensures entered { map label_of result.now ≡ self.now.graph.labels }
         ensures few { length result.now ≤ most_labels }
     {
         self.labels.as_slice()
@@ -54,9 +48,9 @@ impl Case {
 
     /// The formula lines, by their numbers.
     pub fn lines(&self) -> &[Line]
-        ensures sheet { map line_of result.now ≡ lines_in self.now }
+        ensures sheet { map line_of result.now ≡ self.now.lines }
         ensures few { length result.now ≤ most_lines }
-        ensures ordered { Ordered (lines_in self.now) }
+        ensures ordered { Ordered self.now.lines }
     {
         self.lines.as_slice()
     }

@@ -1,8 +1,6 @@
 // Closing a draft.
 ghost use Rattle.std.specs.Prelude.{◌≡◌, []};
-ghost use Rattle.flow.specs.Cases.{graph_in, lines_in};
 ghost use Rattle.flow.specs.Closed.{closed};
-ghost use Rattle.flow.specs.Drafts.{drawn_in};
 ghost use Rattle.flow.specs.Facts.{ClosedGraph};
 
 use crate::case::Case;
@@ -12,10 +10,11 @@ use crate::edge::Edge;
 
 impl Draft {
     /// Uses up the draft and gives each state that has no outgoing edge one to itself. Never refused.
+    #[tactic(auto, using(crate::proofs::Loops::closing))]
     pub fn close(self) -> Case
-        ensures graph { graph_in result ≡ closed (drawn_in self) }
-        ensures sheet { lines_in result ≡ [] }
-        ensures facts { ClosedGraph (graph_in result) }
+        ensures graph { result.graph ≡ closed self }
+        ensures sheet { result.lines ≡ [] }
+        ensures facts { ClosedGraph result.graph }
     {
         let Draft {
             states,
@@ -25,7 +24,7 @@ impl Draft {
         } = self;
         for state in 0..states {
             if !left_from(edges.as_slice(), state) {
-                edges.push_reserved(Edge {
+                edges.push(Edge {
                     from: state,
                     to: state,
                 });

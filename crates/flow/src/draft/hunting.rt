@@ -1,4 +1,4 @@
-// The hunt for an edge or a label that is there already: plain walks.
+// The hunt for an edge or a label that is there already.
 ghost use Rattle.std.specs.Prelude.{◌≡◌, map};
 ghost use Rattle.flow.specs.Closed.{leaves};
 ghost use Rattle.flow.specs.Drawn.{is_edge, is_label};
@@ -12,34 +12,21 @@ use crate::label::Label;
 pub(super) fn joined(edges: &[Edge], from: u32, to: u32) -> bool
     ensures { result ≡ list_any (is_edge from to) edges.now }
 {
-    for edge in edges {
-        if edge.joins(from, to) {
-            return true;
-        }
-    }
-    false
+    edges.iter().any(|edge| edge.joins(from, to))
 }
 
 // Whether an edge leaves from the state.
 pub(super) fn left_from(edges: &[Edge], state: u32) -> bool
     ensures { result ≡ leaves edges.now state }
 {
-    for edge in edges {
-        if edge.from == state {
-            return true;
-        }
-    }
-    false
+    edges.iter().any(|edge| edge.from == state)
 }
 
 // Whether the state has this very label.
 pub(super) fn labelled(labels: &[Label], state: u32, predicate: u32, values: &[u32]) -> bool
     ensures { result ≡ list_any (is_label state predicate values.now) (map label_of labels.now) }
 {
-    for label in labels {
-        if label.says(state, predicate, values) {
-            return true;
-        }
-    }
-    false
+    labels
+        .iter()
+        .any(|label| label.says(state, predicate, values))
 }

@@ -1,59 +1,77 @@
-// Whether a call is refused: the tests stand in the order in which the refusals are given.
+// What a call adds, or why it is refused: the tests stand in the order in which the refusals are given.
 ghost use Rattle.std.specs.Prelude.{◌≡◌};
 ghost use Rattle.flow.specs.Build.{edge as an_edge, label as a_label, state as a_state};
-ghost use Rattle.flow.specs.Drafts.{drawn_in};
-ghost use Rattle.flow.specs.Drawn.{refusal};
+ghost use Rattle.flow.specs.Drawn.{answer};
+ghost use Rattle.flow.specs.Graph.{Label as DrawnLabel};
+ghost use Rattle.flow.specs.Held.{asked_of, label_of};
 
+use crate::arguments::Arguments;
 use crate::draft::Draft;
 use crate::draft::hunting::{joined, labelled};
-use crate::limits::{MOST_ARGUMENTS, MOST_EDGES, MOST_LABELS, MOST_STATES, PREDICATES};
+use crate::edge::Edge;
+use crate::label::Label;
+use crate::limits::{MOST_EDGES, MOST_STATES, PREDICATES};
 use crate::refusal::Refusal;
 
 impl Draft {
-    pub(super) fn state_refusal(&self) -> Option<Refusal>
-        ensures { result ≡ refusal (drawn_in self.now) a_state }
+    // The number that the next state gets.
+    #[tactic(auto, unfolding(crate::specs::Drawn::refusal))]
+    pub(super) fn next_state(&self) -> Result<u32, Refusal>
+        ensures { result ≡ answer self.now a_state self.now.states }
     {
         if self.states >= MOST_STATES {
-            return Some(Refusal::TooManyStates);
+            return Err(Refusal::TooManyStates);
         }
-        None
+        Ok(self.states)
     }
 
-    pub(super) fn edge_refusal(&self, from: u32, to: u32) -> Option<Refusal>
-        ensures { result ≡ refusal (drawn_in self.now) (an_edge from to) }
+    // The edge that joins the two states.
+    #[tactic(auto, unfolding(crate::specs::Drawn::refusal))]
+    pub(super) fn new_edge(&self, from: u32, to: u32) -> Result<Edge, Refusal>
+        ensures { result ≡ answer self.now (an_edge from to) record { from = from; to = to } }
     {
         if from >= self.states || to >= self.states {
-            return Some(Refusal::UnknownState);
+            return Err(Refusal::UnknownState);
         }
         if joined(self.edges.as_slice(), from, to) {
-            return Some(Refusal::AlreadyThere);
+            return Err(Refusal::AlreadyThere);
         }
+        // The other places are for the edges that closing adds.
         if self.edges.len() >= MOST_EDGES {
-            return Some(Refusal::TableFull);
+            return Err(Refusal::TableFull);
         }
-        None
+        Ok(Edge { from, to })
     }
 
-    pub(super) fn label_refusal(
+    // The label of the predicate with its values on the state.
+    #[tactic(auto, unfolding(crate::specs::Drawn::refusal))]
+    pub(super) fn new_label(
         &self,
         state: u32,
         predicate: u32,
         values: &[u32],
-    ) -> Option<Refusal>
-        ensures { result ≡ refusal (drawn_in self.now) (a_label state predicate values.now) }
+    ) -> Result<Label, Refusal>
+        ensures { let call = a_label state predicate values.now in
+            let label : DrawnLabel = record { state = state; predicate = predicate; values = values.now } in
+            asked_of label_of result ≡ answer self.now call label }
     {
         if state >= self.states {
-            return Some(Refusal::UnknownState);
+            return Err(Refusal::UnknownState);
         }
-        if predicate >= PREDICATES || values.len() > MOST_ARGUMENTS {
-            return Some(Refusal::BadLabel);
+        if predicate >= PREDICATES {
+            return Err(Refusal::BadLabel);
         }
+        let held = Arguments::try_from(values)?;
         if labelled(self.labels.as_slice(), state, predicate, values) {
-            return Some(Refusal::AlreadyThere);
+            return Err(Refusal::AlreadyThere);
         }
-        if self.labels.len() >= MOST_LABELS {
-            return Some(Refusal::TableFull);
+        if self.labels.is_full() {
+            return Err(Refusal::TableFull);
         }
-        None
+        Ok(Label {
+            state,
+            predicate,
+            values: held,
+        })
     }
 }

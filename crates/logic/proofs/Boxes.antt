@@ -6,7 +6,6 @@ use Rattle.kinds.specs.Consequences.{Allows, Consequences, Value}
 use Rattle.kinds.specs.Model.{Model}
 use Rattle.rows.specs.Rows.{in_front, meets, same_boxes}
 use Rattle.logic.specs.Valuations.{Valuation, Values, put}
-use Rattle.logic.proofs.Clashes.{none-some}
 use Rattle.std.proofs.lemmas.List.{get_or_past, get_or-set_other, get_or-set_same, set_past}
 use Rattle.std.proofs.lemmas.Bool.{and_parts, eq-eqb, eqb-true, false≢true}
 
@@ -47,8 +46,8 @@ module _ {B : Type 0} (m : Model B) where
   -- boxes that are met, first and others: both the first and the others were met
   pub front_parts : (o : Option B) (p : Option (List B)) {ds : List B} → in_front m o p ≡ Some ds
       → (d : B) × (es : List B) × (o ≡ Some d) × (p ≡ Some es) × (ds ≡ d ∷ es)
-  front_parts None p e = absurd (none-some e)
-  front_parts (Some b) None e = absurd (none-some e)
+  front_parts None p e = cc
+  front_parts (Some b) None e = cc
   front_parts (Some b) (Some bs) e = (b, bs, refl, refl, cc)
 
   -- whether boxes allow a valuation can be decided

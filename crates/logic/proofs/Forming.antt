@@ -10,7 +10,6 @@ use Rattle.rows.specs.declared.witness.Witness.{Witness}
 use Rattle.logic.specs.Faithful.{witness}
 use Rattle.logic.specs.Witnessing.{Formed, form, number_from, numbered}
 use Rattle.logic.specs.declared.shortage.Shortage.TheVariants.{Witnesses}
-use Rattle.logic.proofs.Clashes.{none-some}
 use Rattle.logic.proofs.Thens.{err_ok, ok_inj}
 use Rattle.std.proofs.lemmas.List.{append_assoc, append-nil, get_or_append_left, get_or_push, length-append}
 use Rattle.std.proofs.lemmas.Bool.{and_parts, eqb-true}
@@ -83,7 +82,7 @@ module _ {B : Type 0} (m : Model B) (laws : Consequences m) where
   -- the number that is found is that of an equal witness
   found : (k : ℕ) (us : List (Witness B)) (w : Witness B) {i : ℕ} → number_from m k us w ≡ Some i
       → (j : ℕ) × (i ≡ k + j) × (j < length us) × (equal_witness m (witness m us j) w ≡ true)
-  found k [] w e = absurd (none-some e)
+  found k [] w e = cc
   found k (u ∷ us) w {i} e = step (equal_witness m u w) refl (λ f. found (k + 1) us w f) e
     where
       step : (b : Bool) → equal_witness m u w ≡ b

@@ -8,9 +8,8 @@ use Rattle.rows.specs.declared.forest.Forest.{Forest}
 use Rattle.rows.specs.declared.witness.Witness.{Witness}
 use Rattle.logic.specs.Faithful.{trees, trees_below, witness}
 use Rattle.logic.specs.Trees.{Trees, bare, tree}
-use Rattle.logic.proofs.Flags.{false_of}
 use Rattle.logic.proofs.ForestTrees.{with_tree}
-use Rattle.std.proofs.lemmas.Bool.{eq-eqb, eqb-true}
+use Rattle.std.proofs.lemmas.Bool.{eq-eqb, eqb-true, false_from_ne_true}
 
 -- the witnesses are as many as a forest can name, and each names only earlier ones
 pub record Grounded {B : Type 0} (m : Model B) (ws : List (Witness B)) : Type 0 where
@@ -32,7 +31,7 @@ module _ {B : Type 0} (m : Model B) (ws : List (Witness B)) where
           → trees_below m ws (suc n) f ≡ trees_below m ws i f
       step rec (yes e) = ap (λ (k : ℕ). trees_below m ws k f) e
       step rec (no d) =
-          skip n f (false_of (has f n) (λ t. let k : n < i = h n t in absurd (omega arith))) ∙ rec (omega arith)
+          skip n f (false_from_ne_true (has f n) (λ t. let k : n < i = h n t in absurd (omega arith))) ∙ rec (omega arith)
 
   -- a forest with no number below n has no trees of witnesses below n
   none_below : (n : ℕ) (f : Forest) → ((j : ℕ) → j < n → has f j ≡ false) → trees_below m ws n f ≡ bare
@@ -53,7 +52,7 @@ module _ {B : Type 0} (m : Model B) (ws : List (Witness B)) where
       let only : (j : ℕ) → has (single i) j ≡ true → j < suc i =
       λ j t. let e = eqb-true j i (sym (has-single i j small) ∙ t) in omega arith in
       let others : (j : ℕ) → j < i → has (single i) j ≡ false =
-      λ j k. false_of (has (single i) j) (λ t.
+      λ j k. false_from_ne_true (has (single i) j) (λ t.
       let e = eqb-true j i (sym (has-single i j small) ∙ t) in absurd (omega arith)) in
       let own : has (single i) i ≡ true = has-single i i small ∙ eq-eqb i i refl in
       let w = witness m ws i in

@@ -1,6 +1,5 @@
 -- Tests, lists and outcomes.
 pub mod Flags
-pub mod Clashes
 pub mod Members
 pub mod Thens
 -- What rows show.

@@ -15,7 +15,6 @@ use Rattle.logic.specs.Operators.{labelled, met_with, naming, narrowed, of_label
 use Rattle.logic.specs.Satisfied.{Labelled}
 use Rattle.logic.specs.Valuations.{Valuation, Values}
 use Rattle.logic.proofs.Boxes.{fits_all_but, fits_blank, fits_set, from_set, from_set_own, met}
-use Rattle.logic.proofs.Clashes.{nil-cons, none-some}
 use Rattle.logic.proofs.Members.{
   from_cond,
   from_counting,
@@ -38,13 +37,13 @@ module _ {B : Type 0} (m : Model B) (laws : Consequences m) where
   -- where naming came to a row, the first variable was narrowed
   pub naming_parts : (o : Option (Row B)) (xs ns : List ℕ) {q : Row B} → naming m o xs ns ≡ Some q
       → (r : Row B) × (o ≡ Some r)
-  naming_parts None xs ns e = absurd (none-some e)
+  naming_parts None xs ns e = cc
   naming_parts (Some r) xs ns e = (r, refl)
 
   -- a variable was narrowed only where its box met the value
   pub narrowed_parts : (r : Row B) (x : ℕ) (o : Option B) {q : Row B} → narrowed m r x o ≡ Some q
       → (b : B) × (o ≡ Some b) × (q ≡ with_box m r x b)
-  narrowed_parts r x None e = absurd (none-some e)
+  narrowed_parts r x None e = cc
   narrowed_parts r x (Some b) e = (b, refl, cc)
 
   -- the row covers only where the variables have the values named
@@ -54,8 +53,8 @@ module _ {B : Type 0} (m : Model B) (laws : Consequences m) where
   from_naming r q [] [] l k e s v h c =
       let same : r ≡ q = cc in
       (subst (λ (x : Row B). Covers m x s v) (sym same) c, refl, ap (λ (x : Row B). x.forest) (sym same))
-  from_naming r q [] (n ∷ ns) l k e s v h c = absurd (none-some e)
-  from_naming r q (x ∷ xs) [] l k e s v h c = absurd (none-some e)
+  from_naming r q [] (n ∷ ns) l k e s v h c = cc
+  from_naming r q (x ∷ xs) [] l k e s v h c = cc
   from_naming r q (x ∷ xs) (n ∷ ns) l k e s v h c =
       let one = laws.of_one n (k n (here refl)) in
       let narrow = narrowed m r x (met_with m (box m r x) (m.one n)) in
@@ -81,8 +80,8 @@ module _ {B : Type 0} (m : Model B) (laws : Consequences m) where
       → Values m v → Covers m r s v → ns ≡ map v xs
       → (q : Row B) × (naming m (Some r) xs ns ≡ Some q) × Covers m q s v × (q.forest ≡ r.forest)
   in_naming r [] [] k h c e = (r, refl, c, refl)
-  in_naming r [] (n ∷ ns) k h c e = absurd (nil-cons (sym e))
-  in_naming r (x ∷ xs) [] k h c e = absurd (nil-cons e)
+  in_naming r [] (n ∷ ns) k h c e = cc
+  in_naming r (x ∷ xs) [] k h c e = cc
   in_naming r (x ∷ xs) (n ∷ ns) k {s} {v} h c e =
       let one = laws.of_one n (k n (here refl)) in
       let head : v x ≡ n = cc in

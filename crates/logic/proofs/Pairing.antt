@@ -11,7 +11,6 @@ use Rattle.logic.specs.Adding.{pairing, pairs}
 use Rattle.logic.specs.Faithful.{Covers}
 use Rattle.logic.specs.Valuations.{Valuation, Values}
 use Rattle.logic.proofs.Boxes.{Fits, from_meets, in_meets}
-use Rattle.logic.proofs.Clashes.{none-some}
 use Rattle.logic.proofs.Members.{from_joined, from_listed, in_joined, in_listed}
 use Rattle.logic.proofs.Shown.{Shows, add_all_gathers}
 use Rattle.std.proofs.lemmas.Bool.{eq-eqb, eqb-true}
@@ -28,7 +27,7 @@ module _ {B : Type 0} (m : Model B) (laws : Consequences m) where
   -- a row is there only where its boxes are
   pub row_parts : (s : ℕ) (o : Option (List B)) (f : Forest) {r : Row B} → row_of m s o f ≡ Some r
       → (bs : List B) × (o ≡ Some bs) × (r ≡ record { state = s; boxes = bs; forest = f })
-  row_parts s None f e = absurd (none-some e)
+  row_parts s None f e = cc
   row_parts s (Some bs) f e = (bs, refl, cc)
 
   -- where rows join
@@ -39,7 +38,7 @@ module _ {B : Type 0} (m : Model B) (laws : Consequences m) where
       step : (b : Bool) → eqb p.state q.state ≡ b
           → cond b (row_of m p.state (meets m p.boxes q.boxes) (union p.forest q.forest)) None ≡ Some r
           → Joins p q r
-      step false t e = absurd (none-some e)
+      step false t e = cc
       step true t e =
           let a = row_parts p.state (meets m p.boxes q.boxes) (union p.forest q.forest) e in
           let same = eqb-true p.state q.state t in

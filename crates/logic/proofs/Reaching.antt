@@ -1,5 +1,5 @@
 -- The lines that are reached: the asked line is, and so are the operands of each that is.
-use Rattle.std.proofs.Common.{◌≡◌, ℕ, zero, suc, ◌+◌, ◌<◌, ◌≤◌, Bool, true, false, ◌&&◌, eqb, ltb, List, [], ◌∷◌, length, sym, refl, ap, ◌∙◌, subst, add-zero, arith}
+use Rattle.std.proofs.Common.{◌≡◌, ℕ, zero, suc, ◌+◌, ◌<◌, ◌≤◌, Bool, true, false, ◌&&◌, eqb, ltb, List, [], ◌∷◌, length, sym, refl, ap, ◌∙◌, subst, add-zero, arith, ◌||◌}
 use native.Mathlib.Decide.{ℕ_discrete, dec_lt}
 use Rattle.flow.specs.Facts.{Ordered}
 use Rattle.flow.specs.Limits.{variables}
@@ -8,10 +8,10 @@ use Rattle.flow.specs.Sheet.{right}
 use Rattle.std.specs.List.{list_any}
 use Rattle.kinds.specs.Member.{◌∈◌, here, there}
 use Rattle.logic.specs.Reached.{line_at, marked_below, marking, operands, reached}
-use Rattle.logic.proofs.Flags.{false_of, or_none}
+use Rattle.std.proofs.Math.Bool.{or-false}
 use Rattle.logic.proofs.Members.{from_any, from_one, in_any}
 use Rattle.std.proofs.lemmas.List.{get_or_past}
-use Rattle.std.proofs.lemmas.Bool.{and_parts, eq-eqb, eqb-true, ltb-true, or_left, or_right}
+use Rattle.std.proofs.lemmas.Bool.{and_parts, eq-eqb, eqb-true, false_from_ne_true, ltb-true, or_left, or_right}
 
 -- two operands that are below n
 both_below : (n x y : ℕ) → (ltb x n && ltb y n) ≡ true → (a : ℕ) → a ∈ (x ∷ y ∷ []) → a < n
@@ -77,12 +77,12 @@ module _ (ls : List Line) (ordered : Ordered ls) where
   marking_above true n i marks l =
       let os = operands (line_at ls n) in
       let none : list_any (eqb i) os ≡ false =
-      false_of (list_any (eqb i) os) (λ t.
+      false_from_ne_true (list_any (eqb i) os) (λ t.
       let a = from_any (eqb i) os t in
       let same = eqb-true i a.0 a.2 in
       let below = earlier_named n a.0 a.1 in
       omega arith) in
-      or_none (marks i) (list_any (eqb i) os) none
+      ap (λ b. marks i || b) none ∙ or-false (marks i)
 
   -- nor in all lines below n
   marks_above : (n : ℕ) (marks : ℕ → Bool) (i : ℕ) → n ≤ i → marked_below ls n marks i ≡ marks i

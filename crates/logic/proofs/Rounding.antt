@@ -4,9 +4,8 @@ use Rattle.std.proofs.Common.{◌≡◌, ℕ, zero, suc, ◌+◌, ◌<◌, Bool,
 use Rattle.rows.specs.declared.row.Row.{Row}
 use Rattle.logic.specs.Outcomes.{Outcome, then}
 use Rattle.logic.specs.Rounds.{Rounds, Settled, last, more, one_more, stops}
-use Rattle.logic.proofs.Flags.{false_of}
 use Rattle.logic.proofs.Growth.{Grown}
-use Rattle.std.proofs.lemmas.Bool.{eq-eqb, eqb-true}
+use Rattle.std.proofs.lemmas.Bool.{eq-eqb, eqb-true, false_from_ne_true}
 
 module _ {B : Type 0} (turn : List (Row B) → Outcome (List (Row B))) where
   -- a round that added nothing was the last; else there are more
@@ -24,7 +23,7 @@ module _ {B : Type 0} (turn : List (Row B) → Outcome (List (Row B))) where
     -- a list that got longer is told from what it was by its length
     longer_differs : (rows all : List (Row B)) → length rows < length all → eqb (length all) (length rows) ≡ false
     longer_differs rows all l =
-        false_of (eqb (length all) (length rows)) (λ t. let e = eqb-true (length all) (length rows) t in omega arith)
+        false_from_ne_true (eqb (length all) (length rows)) (λ t. let e = eqb-true (length all) (length rows) t in omega arith)
 
     -- rounds come to what is computed
     pub settles : (k : ℕ) (rows : List (Row B)) → limit < k + length rows → Rounds turn rows (settle k rows)

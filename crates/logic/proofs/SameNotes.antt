@@ -1,8 +1,8 @@
 -- Accounts as sets: the same notes.
 use Rattle.std.proofs.Common.{◌≡◌, ℕ, sym, refl, ◌∙◌, subst}
 use Rattle.logic.specs.Accounts.{Account, ◌≋◌}
-use Rattle.logic.specs.Trees.{bare, tree, Has, ◌∪◌}
-use Rattle.logic.proofs.TreeSets.{match_members, match_refl, match_sym, match_trans, match_tree, match_∪}
+use Rattle.logic.specs.Trees.{Has, ◌∪◌}
+use Rattle.logic.proofs.TreeSets.{match_members, match_refl, match_sym, match_trans, match_∪}
 
 -- notes agree when their values are equal
 abbrev Eq : ℕ → ℕ → Type 0
@@ -18,12 +18,9 @@ pub ≋_sym : (x y : Account) → x ≋ y → y ≋ x
 pub ≋_trans : (x y z : Account) → x ≋ y → y ≋ z → x ≋ z
 ≋_trans x y z e f = match_trans Eq Eq Eq (λ a b c p q. p ∙ q) x y z e f
 
--- unions and single notes keep it
+-- unions keep it
 pub ≋-∪ : (x y z w : Account) → x ≋ z → y ≋ w → x ∪ y ≋ z ∪ w
 ≋-∪ x y z w e f = match_∪ Eq x y z w e f
-
-pub ≋-tree : (s x n : ℕ) (inner other : Account) → inner ≋ other → tree s x n inner bare ≋ tree s x n other bare
-≋-tree s x n inner other e = match_tree Eq s x n n inner other refl e
 
 -- equal accounts have the same notes
 pub ≋_eq : {x y : Account} → x ≡ y → x ≋ y

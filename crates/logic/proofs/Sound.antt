@@ -13,7 +13,6 @@ use Rattle.rows.specs.declared.forest.Forest.{Forest}
 use Rattle.rows.specs.declared.row.Row.{Row}
 use Rattle.logic.specs.Operators.{met_with, moved, naming, narrowed, rewritten, states}
 use Rattle.logic.proofs.Boxes.{front_parts}
-use Rattle.logic.proofs.Clashes.{none-some}
 use Rattle.logic.proofs.Flags.{not_both}
 use Rattle.logic.proofs.Members.{from_append, from_cond, from_joined, from_map, from_one}
 use Rattle.logic.proofs.Naming.{narrowed_parts}
@@ -73,7 +72,7 @@ module _ {B : Type 0} (m : Model B) (laws : Consequences m) where
       step : (c : Bool)
           → cond c (row_of m p.state (meets m p.boxes q.boxes) (union p.forest q.forest)) None ≡ Some r
           → Sound n r
-      step false e = absurd (none-some e)
+      step false e = cc
       step true e =
           let k = row_parts m laws p.state (meets m p.boxes q.boxes) (union p.forest q.forest) e in
           let forest = ap (λ (x : Row B). x.forest) k.2 in
@@ -90,10 +89,10 @@ module _ {B : Type 0} (m : Model B) (laws : Consequences m) where
   -- rows with values named are sound where the row was
   pub sound_naming : {n : ℕ} (o : Option (Row B)) (xs ns : List ℕ) {q : Row B} → ((r : Row B) → o ≡ Some r → Sound n r)
       → naming m o xs ns ≡ Some q → Sound n q
-  sound_naming None xs ns s e = absurd (none-some e)
+  sound_naming None xs ns s e = cc
   sound_naming (Some r) [] [] s e = s _ e
-  sound_naming (Some r) [] (n ∷ ns) s e = absurd (none-some e)
-  sound_naming (Some r) (x ∷ xs) [] s e = absurd (none-some e)
+  sound_naming (Some r) [] (n ∷ ns) s e = cc
+  sound_naming (Some r) (x ∷ xs) [] s e = cc
   sound_naming {n = k} (Some r) (x ∷ xs) (n ∷ ns) s e =
       sound_naming (narrowed m r x (met_with m (box m r x) (m.one n))) xs ns (λ q f.
       let a = narrowed_parts m laws r x (met_with m (box m r x) (m.one n)) f in

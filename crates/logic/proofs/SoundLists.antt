@@ -25,7 +25,7 @@ use Rattle.logic.specs.Operators.{
 }
 use Rattle.logic.specs.Outcomes.{Outcome}
 use Rattle.logic.specs.Rounds.{Rounds, Settled, round}
-use Rattle.logic.proofs.Clashes.{some_inj}
+use Rattle.std.proofs.lemmas.Option.{same_Some}
 use Rattle.logic.proofs.Members.{from_cond, from_joined, from_listed, from_map}
 use Rattle.logic.proofs.Pairing.{from_pairing}
 use Rattle.logic.proofs.Settling.{through_rounds}
@@ -77,7 +77,7 @@ module _ {B : Type 0} (m : Model B) (laws : Consequences m) (limit : ℕ) {n : �
               let c = from_cond _ _ b.2 in
               let start = sound_blank m laws n a.0 in
               sound_naming m laws (Some (blank m a.0)) xs b.0.values
-              (λ q f. subst (λ (z : Row B). Sound m laws n z) (some_inj f) start) (from_listed _ c.1);
+              (λ q f. subst (λ (z : Row B). Sound m laws n z) (same_Some _ _ f) start) (from_listed _ c.1);
         })
 
     -- `&`

@@ -1,5 +1,6 @@
 -- Witnesses, numbered as they are first formed, and the rows of `Q`.
-use Rattle.std.specs.Prelude.{ℕ, ◌+◌, cond, List, [], ◌∷◌, ◌++◌, length, Some, None, Ok, Err, Option, nat_lt, slice_set}
+use Rattle.std.specs.Prelude.{ℕ, cond, List, [], ◌∷◌, ◌++◌, length, Some, None, Ok, Err, Option, nat_lt, slice_set}
+use Rattle.std.specs.List.{position_from}
 use Rattle.kinds.specs.Model.{Model}
 use Rattle.rows.specs.Forests.{most_witnesses, single}
 use Rattle.rows.specs.Rows.{box}
@@ -31,8 +32,7 @@ module _ {B : Type 0} (m : Model B) where
 
   -- the number of the first witness that is equal to w, counted from i
   abbrev pub number_from : ℕ → List (Witness B) → Witness B → Option ℕ
-  number_from i [] w = None
-  number_from i (u ∷ us) w = cond (equal_witness m u w) (Some i) (number_from (i + 1) us w)
+  number_from i us w = position_from (λ u. equal_witness m u w) i us
 
   -- an equal witness keeps its number, and any other gets the next; one too many finds no room
   abbrev pub numbered : List (Witness B) → Witness B → Option ℕ → Outcome (Formed B)

@@ -6,9 +6,9 @@ ghost use Rattle.logic.specs.Shortages.{number as numbered};
 #[derive(Clone, Copy, PartialEq, Eq, Debug)]
 pub enum Shortage {
     /// A row is new to a list that is full.
-    Rows,
+    Rows = 11,
     /// A witness is new, and there are as many as there may be.
-    Witnesses,
+    Witnesses = 12,
 }
 
 impl Shortage {
@@ -16,9 +16,6 @@ impl Shortage {
     pub fn number(self) -> u32
         ensures { result ≡ numbered self }
     {
-        match self {
-            Shortage::Rows => 11,
-            Shortage::Witnesses => 12,
-        }
+        self as u32
     }
 }

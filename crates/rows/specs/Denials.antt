@@ -1,16 +1,11 @@
 -- The denial of a row: rows that together cover exactly what the row does not.
-use Rattle.std.specs.Prelude.{◌≡◌, ℕ, ◌+◌, ◌-◌, cond, List, [], ◌∷◌, ◌++◌, map, drop, Some, None, Option, ◌==◌, nat_lt}
+use Rattle.std.specs.Prelude.{ℕ, ◌+◌, ◌-◌, cond, List, [], ◌∷◌, ◌++◌, map, drop, ◌==◌, nat_lt}
 use Rattle.flow.specs.Limits.{variables}
 use Rattle.kinds.specs.Model.{Model}
 use Rattle.rows.specs.Rows.{blank, box, with_box}
 use Rattle.rows.specs.declared.denial.Denial.{Denial}
 use Rattle.rows.specs.declared.row.Row.{Row}
 use Rattle.std.specs.List.{range_with_len, flat_map}
-
--- one step of a walk: of no rows none, and none are left; else the first, and the others are left
-abbrev pub Gives : {A : Type 0} → List A → Option A → List A → Type 0
-Gives rows None rest = (rows ≡ []) × (rest ≡ [])
-Gives rows (Some t) rest = rows ≡ t ∷ rest
 
 module _ {B : Type 0} (m : Model B) where
   -- the blank row of s, unless that is the row's own state
@@ -23,7 +18,9 @@ module _ {B : Type 0} (m : Model B) where
 
   -- in a graph of so many states: the blank rows of the other states, ascending, then what the boxes leave out
   unfoldable pub denial : ℕ → Row B → List (Row B)
-  denial states t = flat_map (elsewhere t) (range_with_len 0 states) ++ flat_map (besides t) (range_with_len 0 variables)
+  denial states t =
+      flat_map (elsewhere t) (range_with_len 0 states)
+      ++ flat_map (besides t) (range_with_len 0 variables)
 
   -- what is left of the boxes: of x all pieces but the first so many, and the later variables
   abbrev pub besides_from : Row B → ℕ → ℕ → List (Row B)
@@ -32,8 +29,14 @@ module _ {B : Type 0} (m : Model B) where
       (drop past (besides t x) ++ flat_map (besides t) (range_with_len (x + 1) (variables - (x + 1))))
       []
 
+  -- the blank rows that a walk has still to give
+  abbrev pub elsewhere_left : {K : Type 0} → Denial K B → List (Row B)
+  elsewhere_left d = flat_map (elsewhere d.of) (range_with_len d.states.start (d.states.end - d.states.start))
+
+  -- the rows of the row's own state that it has still to give
+  abbrev pub besides_left : {K : Type 0} → Denial K B → List (Row B)
+  besides_left d = besides_from d.of d.variable d.piece
+
   -- what a walk has still to give
-  unfoldable pub left : Denial B → List (Row B)
-  left d =
-      flat_map (elsewhere d.of) (range_with_len d.state (d.states - d.state))
-      ++ besides_from d.of d.variable d.piece
+  unfoldable pub left : {K : Type 0} → Denial K B → List (Row B)
+  left d = elsewhere_left d ++ besides_left d

@@ -1,6 +1,6 @@
 -- Forests: sets of witness numbers, held as the bits of four words. Bit k of the word w stands for 64 w + k.
-use Rattle.std.specs.Prelude.{ℕ, ◌*◌, ◌/◌, ◌%◌, ◌^◌, Bool, List, [], ◌∷◌, replicate, bit_or, slice_index, slice_set}
-use Rattle.flow.specs.Tests.{same_numbers}
+use Rattle.std.specs.Prelude.{ℕ, ◌*◌, ◌/◌, ◌%◌, ◌^◌, Bool, List, [], ◌∷◌, replicate, bit_or, ◌==◌, slice_index, slice_set}
+use Rattle.std.specs.Cmp.Lexicographic.{pointwise}
 use Rattle.kinds.specs.Fragments.{bit}
 use Rattle.rows.specs.declared.forest.Forest.{Forest}
 
@@ -38,4 +38,4 @@ union f g = record { words = either f.words g.words }
 
 -- both have the same words
 unfoldable pub alike : Forest → Forest → Bool
-alike f g = same_numbers f.words g.words
+alike f g = pointwise ◌==◌ f.words g.words

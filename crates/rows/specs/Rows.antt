@@ -1,5 +1,6 @@
 -- Rows as values: blank ones, equal ones, and what two rows join to.
-use Rattle.std.specs.Prelude.{ℕ, Bool, true, false, cond, ◌&&◌, List, [], ◌∷◌, replicate, Some, None, Option, ◌==◌, slice_index_or, slice_set}
+use Rattle.std.specs.Prelude.{ℕ, Bool, cond, ◌&&◌, List, [], ◌∷◌, replicate, Some, None, Option, ◌==◌, slice_index_or, slice_set}
+use Rattle.std.specs.Cmp.Lexicographic.{pointwise}
 use Rattle.flow.specs.Limits.{variables}
 use Rattle.kinds.specs.Model.{Model}
 use Rattle.rows.specs.Forests.{alike, none, union}
@@ -21,10 +22,7 @@ module _ {B : Type 0} (m : Model B) where
 
   -- the boxes are the same, place by place
   abbrev pub same_boxes : List B → List B → Bool
-  same_boxes [] [] = true
-  same_boxes [] (c ∷ cs) = false
-  same_boxes (b ∷ bs) [] = false
-  same_boxes (b ∷ bs) (c ∷ cs) = m.same b c && same_boxes bs cs
+  same_boxes = pointwise m.same
 
   -- equal rows: boxes same, all else equal
   unfoldable pub equal : Row B → Row B → Bool

@@ -1,78 +1,99 @@
 // The denial of a row, walked: the rows that together cover what the row does not, none of them held.
-ghost use Rattle.std.specs.Prelude.{◌≡◌, ◌<◌, ◌≤◌};
+ghost use Rattle.std.specs.Prelude.{◌≡◌, ◌<◌};
+ghost use Rattle.std.specs.Iterator.{YieldsFirst, item_count};
 ghost use Rattle.flow.specs.Limits.{variables};
 ghost use Rattle.std.specs.List.{slice_get};
-ghost use Rattle.rows.specs.Denials.{Gives, besides, denial, left};
+ghost use Rattle.rows.specs.Denials.{besides, besides_left, denial, elsewhere_left, left};
 
 use crate::row::{BOXES, Row};
 use kinds::kind::Kind;
+use std::ops::Range;
 
 /// A walk through the denial of a row: first the blank rows of the other states, then, for each variable, a blank row
 /// of the row's own state with each piece of its box.
-#[derive(Drop)]
-pub struct Denial<B> {
-    of: Row<B>,
-    states: u32,
-    // The next state to come, and after the states the next piece of the box of a variable.
-    state: u32,
+pub struct Denial<K: Kind> {
+    of: Row<K::Box>,
+    // The states to come, and after them the next piece of the box of a variable. A place and no iterator of pieces,
+    // since a kind gives its pieces by their place.
+    states: Range<u32>,
     variable: usize,
     piece: usize,
 }
 
-// A blank row of the row's state with a piece of its box of a variable, or none past the last piece.
+// Not derived: a derive would ask of the kind itself that it may be dropped.
+impl<K: Kind> Drop for Denial<K> {
+    fn drop(self) {
+        let Denial {
+            of: _,
+            states: _,
+            variable: _,
+            piece: _,
+        } = self;
+    }
+}
+
+// A blank row of the row's state with a piece of its box of a variable, or none past the last piece. The bound is that
+// of `with_box`.
 fn beside<K: Kind>(row: &Row<K::Box>, variable: usize, piece: usize) -> Option<Row<K::Box>>
     requires { variable < variables }
     ensures { result ≡ slice_get (besides K.model row.now variable) piece }
 {
     let b = row.boxes[variable];
-    match K::piece(&b, piece) {
-        Some(c) => Some(Row::blank::<K>(row.state).with_box::<K>(variable, c)),
-        None => None,
-    }
+    let c = K::piece(&b, piece)?;
+    Some(Row::blank::<K>(row.state).with_box::<K>(variable, c))
 }
 
-impl<B: Copy> Denial<B> {
+impl<K: Kind> Denial<K> {
     /// The denial of a row, in a graph of so many states.
-    pub fn of<K: Kind<Box = B>>(row: &Row<B>, states: u32) -> Denial<B>
+    #[tactic(auto, unfolding(crate::specs::Denials::denial, crate::specs::Denials::left))]
+    pub fn of(row: &Row<K::Box>, states: u32) -> Denial<K>
         ensures { left K.model result ≡ denial K.model states row.now }
     {
         Denial {
             of: *row,
-            states,
-            state: 0,
+            states: 0..states,
             variable: 0,
             piece: 0,
         }
     }
 
-    // The next row of the row's own state, where no other state is to come.
-    fn next_beside<K: Kind<Box = B>>(&mut self) -> Option<Row<B>>
-        requires { self.old.states ≤ self.old.state }
-        ensures { Gives (left K.model self.old) result (left K.model self.new) }
+    // The next row of the row's own state.
+    fn next_beside(&mut self) -> Option<Row<K::Box>>
+        ensures next { YieldsFirst (besides_left K.model) self.old result self.new }
+        ensures same { elsewhere_left K.model self.new ≡ elsewhere_left K.model self.old }
     {
         while self.variable < BOXES {
-            if self.piece < K::limit() {
-                if let Some(row) = beside::<K>(&self.of, self.variable, self.piece) {
-                    self.piece += 1;
-                    return Some(row);
-                }
+            if self.piece < K::PIECES
+                && let Some(row) = beside::<K>(&self.of, self.variable, self.piece)
+            {
+                self.piece += 1;
+                return Some(row);
             }
             self.variable += 1;
             self.piece = 0;
         }
         None
     }
+}
+
+impl<K: Kind> Iterator for Denial<K> {
+    type Item = Row<K::Box>;
+
+    ghost next_gives = { YieldsFirst (left K.model) };
+
+    ghost remaining = { item_count (left K.model) };
 
     /// The next row, or none where all have come.
-    pub fn next<K: Kind<Box = B>>(&mut self) -> Option<Row<B>>
-        ensures { Gives (left K.model self.old) result (left K.model self.new) }
-    {
-        for state in self.state..self.states {
-            self.state = state + 1;
-            if state != self.of.state {
-                return Some(Row::blank::<K>(state));
-            }
+    fn next(&mut self) -> Option<Row<K::Box>> {
+        let own = self.of.state;
+        match self.states.find(|state| *state != own) {
+            Some(state) => Some(Row::blank::<K>(state)),
+            None => self.next_beside(),
         }
-        self.next_beside::<K>()
+    }
+
+    // Says what the trait's own says, which would ask how large a row is: that differs from kind to kind.
+    fn size_hint(&self) -> (usize, Option<usize>) {
+        (0, None)
     }
 }

@@ -9,13 +9,15 @@ const WORDS: usize = 4;
 const WORD_BITS: u8 = 64;
 
 /// A set of witness numbers, each below 256: bit k of word w stands for the number 64 w + k.
-#[derive(Clone, Copy)]
+#[derive(Clone, Copy, PartialEq, Eq, Debug)]
 pub struct Forest {
+    // In place, since a forest is copied with its row and wants no memory.
     words: [u64; WORDS],
 }
 
 impl Forest {
     /// No witnesses.
+    #[tactic(auto, unfolding(crate::specs::Forests::none))]
     pub fn none() -> Forest
         ensures { result ≡ none }
     {
@@ -23,6 +25,7 @@ impl Forest {
     }
 
     /// The one witness of this number.
+    #[tactic(auto, unfolding(crate::specs::Forests::single))]
     pub fn single(number: u8) -> Forest
         ensures { result ≡ single number }
     {
@@ -32,6 +35,7 @@ impl Forest {
     }
 
     /// Whether the witness of this number is in.
+    #[tactic(auto, unfolding(crate::specs::Forests::has))]
     pub fn has(&self, number: u8) -> bool
         ensures { result ≡ has self.now number }
     {
@@ -43,23 +47,19 @@ impl Forest {
     pub fn union(&self, other: &Forest) -> Forest
         ensures { result ≡ union self.now other.now }
     {
-        let mut words = self.words;
-        for i in 0..WORDS {
-            words[i] |= other.words[i];
+        Forest {
+            words: std::array::from_fn(|i| self.words[i] | other.words[i]),
         }
-        Forest { words }
     }
 
-    /// Whether both have the same witnesses.
+    /// Whether both have the same witnesses: `==`, and what it says of the members.
+    #[tactic(auto, unfolding(crate::specs::Forests::alike))]
     pub fn equals(&self, other: &Forest) -> bool
         ensures words { result ≡ alike self.now other.now }
         ensures members { (result ≡ true) ↔ ((n : ℕ) → has self.now n ≡ has other.now n) }
     {
-        for i in 0..self.words.len() {
-            if self.words[i] != other.words[i] {
-                return false;
-            }
-        }
-        true
+        // A word of each is read, which tells a proof how large words are.
+        let _words = (self.words[0], other.words[0]);
+        *self == *other
     }
 }

@@ -10,46 +10,39 @@ use kinds::kind::Kind;
 /// How many boxes a row has: one for each variable.
 pub const BOXES: usize = VARIABLES as usize;
 
-/// A state, the box of each variable, and the witnesses.
-#[derive(Clone, Copy)]
+/// A state, the box of each variable, and the witnesses. `==` compares how the boxes are held, and `equals` what they
+/// allow.
+#[derive(Clone, Copy, PartialEq, Eq, Debug)]
 pub struct Row<B> {
     pub state: u32,
+    // In place, one for each variable: a row wants no memory.
     pub boxes: [B; BOXES],
     pub forest: Forest,
 }
 
-// Whether the boxes are the same, place by place.
-fn same_boxes<K: Kind>(a: [K::Box; BOXES], b: [K::Box; BOXES]) -> bool
-    ensures { result ≡ same_boxes K.model a b }
+// Whether the boxes are the same, place by place. Not by `==`: which boxes are the same is the kind's to say.
+fn same_boxes<K: Kind>(ours: &[K::Box; BOXES], theirs: &[K::Box; BOXES]) -> bool
+    ensures { result ≡ same_boxes K.model ours.now theirs.now }
 {
-    for i in 0..a.len() {
-        let x = a[i];
-        let y = b[i];
-        if !K::same(&x, &y) {
-            return false;
-        }
-    }
-    true
+    ours.iter().zip(theirs).all(|(x, y)| K::same(x, y))
 }
 
 // The boxes met place by place, or none where two have no value in common.
-fn meet_boxes<K: Kind>(a: [K::Box; BOXES], b: [K::Box; BOXES]) -> Option<[K::Box; BOXES]>
-    ensures { result ≡ meets K.model a b }
+fn meet_boxes<K: Kind>(ours: &[K::Box; BOXES], theirs: &[K::Box; BOXES]) -> Option<[K::Box; BOXES]>
+    ensures { result ≡ meets K.model ours.now theirs.now }
 {
-    let mut met = a;
-    for i in 0..BOXES {
-        let x = met[i];
-        let y = b[i];
-        match K::meet(&x, &y) {
-            Some(z) => met[i] = z,
-            None => return None,
-        }
+    let mut met = *ours;
+    // By place: an iterator gives no array back.
+    for (i, b) in theirs.iter().enumerate() {
+        let a = met[i];
+        met[i] = K::meet(&a, b)?;
     }
     Some(met)
 }
 
 impl<B: Copy> Row<B> {
     /// The blank row of a state: each variable may have any value, and there are no witnesses.
+    #[tactic(auto, unfolding(crate::specs::Rows::blank))]
     pub fn blank<K: Kind<Box = B>>(state: u32) -> Row<B>
         ensures { result ≡ blank K.model state }
     {
@@ -61,45 +54,38 @@ impl<B: Copy> Row<B> {
     }
 
     /// The row with another box for one variable. The variable is one of those that there are, below `BOXES`.
-    pub fn with_box<K: Kind<Box = B>>(self, variable: usize, b: B) -> Row<B>
+    // A bound and no type: a variable comes as a number, from a line whose own invariant bounds it.
+    pub fn with_box<K: Kind<Box = B>>(mut self, variable: usize, b: B) -> Row<B>
         requires { variable < variables }
         ensures { result ≡ with_box K.model self variable b }
     {
-        let mut boxes = self.boxes;
-        boxes[variable] = b;
-        Row {
-            state: self.state,
-            boxes,
-            forest: self.forest,
-        }
+        self.boxes[variable] = b;
+        self
     }
 
-    /// Whether the boxes are the same and all else is equal.
+    /// Whether the boxes are the same, as the kind says, and all else is equal.
+    #[tactic(auto, unfolding(crate::specs::Rows::equal, crate::specs::Forests::alike))]
     pub fn equals<K: Kind<Box = B>>(&self, other: &Row<B>) -> bool
         ensures { result ≡ equal K.model self.now other.now }
     {
-        if self.state != other.state {
-            return false;
-        }
-        self.forest.equals(&other.forest) && same_boxes::<K>(self.boxes, other.boxes)
+        self.state == other.state
+            && self.forest == other.forest
+            && same_boxes::<K>(&self.boxes, &other.boxes)
     }
 
     /// Both rows in one: their boxes met and their forests united. None where the states differ or boxes have no value
     /// in common.
+    #[tactic(auto, unfolding(crate::specs::Rows::join))]
     pub fn join<K: Kind<Box = B>>(&self, other: &Row<B>) -> Option<Row<B>>
         ensures { result ≡ join K.model self.now other.now }
     {
-        let state = self.state;
-        if state != other.state {
+        if self.state != other.state {
             return None;
         }
-        match meet_boxes::<K>(self.boxes, other.boxes) {
-            Some(boxes) => Some(Row {
-                state,
-                boxes,
-                forest: self.forest.union(&other.forest),
-            }),
-            None => None,
-        }
+        Some(Row {
+            state: self.state,
+            boxes: meet_boxes::<K>(&self.boxes, &other.boxes)?,
+            forest: self.forest.union(&other.forest),
+        })
     }
 }

@@ -6,7 +6,9 @@ use Rattle.rows.proofs.row.meet_boxes.Given as goal
 
 -- the boxes that are met, and behind them the meets of those that are left
 abbrev pub invariant-loop-i : goal.invariant-loop-i
-invariant-loop-i g l =
-    (length l.met ≡ variables)
-    × (behind (take l.i l.met) (meets g.K.Kind.model (drop l.i l.met) (drop l.i l.b))
-    ≡ meets g.K.Kind.model l.initial.met l.b)
+invariant-loop-i g l = record {
+  as_many : length l.met ≡ variables;
+  meeting :
+      behind (take l.i l.met) (meets g.K.Kind.model (drop l.i l.met) (drop l.i l.theirs))
+      ≡ meets g.K.Kind.model l.initial.met l.theirs;
+}

@@ -1,27 +1,15 @@
-use Rattle.std.proofs.Common.{◌≡◌, length, sym, ◌∙◌, arith, rules}
-use Rattle.flow.specs.Limits.{variables}
-use Rattle.rows.proofs.Boxes.{same_all, same_differs, same_more}
+use Rattle.std.proofs.Common.{◌∙◌, rules}
+use Rattle.std.proofs.lemmas.Iterator.{YieldsList-from_slice, YieldsList-from_zip}
+use Rattle.std.proofs.lemmas.Iterator.Search.{all_from_yields_List}
+use Rattle.rows.proofs.Boxes.{same_boxes-zip}
 use Rattle.rows.proofs.row.same_boxes.Goals as goal
-
-pub returns-then-not-same : goal.returns-then-not-same
-returns-then-not-same g c =
-    let long : length c.args.a ≡ variables = search rules in
-    let other : length c.args.b ≡ variables = search rules in
-    sym (same_differs g.K.Kind.model c.args.a c.args.b c.loop-i.i _ _ (omega arith) (omega arith)
-    (sym c.same.ensures ∙ c.if-not-same.true))
-    ∙ c.loop-i.invariant
-
-pub loop-i-preserved : goal.loop-i-preserved
-loop-i-preserved g c =
-    let long : length c.args.a ≡ variables = search rules in
-    let other : length c.args.b ≡ variables = search rules in
-    sym (same_more g.K.Kind.model c.args.a c.args.b c.loop-i.i _ _ (omega arith) (omega arith)
-    (sym c.same.ensures ∙ c.if-not-same.false))
-    ∙ c.loop-i.invariant
 
 pub returns : goal.returns
 returns g c =
-    let long : length c.args.a ≡ variables = search rules in
-    let other : length c.args.b ≡ variables = search rules in
-    sym (same_all g.K.Kind.model c.args.a c.args.b c.loop-i.i (omega arith) (omega arith))
-    ∙ c.loop-i.invariant
+    let m = g.K.Kind.model in
+    all_from_yields_List (λ p. m.same p.0 p.1) c.all.new.self _ _ c.all.ensures.ran
+    (YieldsList-from_zip
+    (YieldsList-from_slice c.args.ours.now cc)
+    (YieldsList-from_slice c.args.theirs.now cc))
+    (λ x b q k. search rules)
+    ∙ same_boxes-zip m c.args.ours.now c.args.theirs.now (search rules)

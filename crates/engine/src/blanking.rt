@@ -7,7 +7,7 @@ use kinds::kind::Kind;
 use rows::row::Row;
 use rows::witness::Witness;
 
-// Makes every element this value.
+// Makes every element this value. The library's `fill` clones, and of a clone of a box generic code knows nothing.
 fn fill<T: Copy>(table: &mut [T], value: T)
     ensures { table.new ≡ replicate (length table.old) value }
 {
@@ -16,7 +16,7 @@ fn fill<T: Copy>(table: &mut [T], value: T)
     }
 }
 
-/// Makes every row the blank row of state 0.
+/// Makes every row the blank row of state 0. This and the next differ in the value alone, which is what they are for.
 pub fn blank_rows<K: Kind>(rows: &mut [Row<K::Box>])
     ensures { rows.new ≡ replicate (length rows.old) (blank K.model 0) }
 {

@@ -10,22 +10,20 @@ use kinds::kind::Kind;
 fn all_taken<K: Kind>(numbers: &[u32]) -> bool
     ensures { result ≡ list_all K.model.nameable numbers.now }
 {
-    for n in numbers {
-        if !K::takes(*n) {
-            return false;
-        }
-    }
-    true
+    numbers.iter().all(
+        |n| -> bool
+            ensures { result ≡ K.model.nameable n.now }
+        { K::takes(*n) },
+    )
 }
 
 /// Whether every number that stands in a label is nameable.
 pub fn labels_nameable<K: Kind>(labels: &[Label]) -> bool
     ensures { result ≡ list_all (λ l. list_all K.model.nameable l.values) (map label_of labels.now) }
 {
-    for label in labels {
-        if !all_taken::<K>(label.values.as_slice()) {
-            return false;
-        }
-    }
-    true
+    labels.iter().all(
+        |label| -> bool
+            ensures { result ≡ list_all K.model.nameable (label_of label.now).values }
+        { all_taken::<K>(label.values.as_slice()) },
+    )
 }

@@ -22,9 +22,10 @@ fn mark_named(line: &Line, marks: &mut [bool; MOST_LINES])
             marks[left as usize] = true;
             marks[right as usize] = true;
         }
-        Line::Not { line: x } | Line::AllNext { line: x } | Line::SomeNext { line: x } =>
-            marks[x as usize] = true,
-        Line::Exists { line: x, .. } => marks[x as usize] = true,
+        Line::Not { line }
+        | Line::Exists { line, .. }
+        | Line::AllNext { line }
+        | Line::SomeNext { line } => marks[line as usize] = true,
         Line::AllUntil { until, goal } | Line::SomeUntil { until, goal } => {
             marks[until as usize] = true;
             marks[goal as usize] = true;
@@ -33,6 +34,8 @@ fn mark_named(line: &Line, marks: &mut [bool; MOST_LINES])
 }
 
 /// The lines that the asked line reaches: itself, and the operands of each that it reaches.
+// By number and downwards: a line's number is its place among the lines and among the marks, and it names only earlier
+// ones. The marks are in place, since no check wants memory.
 pub fn reached(lines: &[Line], asked: usize) -> [bool; MOST_LINES]
     requires few { length lines.now ≤ most_lines }
     requires ordered { Ordered (map line_of lines.now) }

@@ -1,37 +1,16 @@
 -- Rows added to a list, and to a list of a table: in one go or in two, and one row alone.
-use Rattle.std.proofs.Common.{◌≡◌, ℕ, ◌+◌, ◌<◌, ◌≤◌, true, false, List, [], ◌∷◌, ◌++◌, length, get_or, drop, Ok, Err, sym, refl, ap, ◌∙◌}
+use Rattle.std.proofs.Common.{◌≡◌, ℕ, ◌<◌, ◌≤◌, true, false, List, [], ◌∷◌, ◌++◌, length, Ok, Err, sym, refl, ap, ◌∙◌}
 use Rattle.kinds.specs.Model.{Model}
 use Rattle.lists.specs.Tables.{Table, adding, at, with_list}
 use Rattle.lists.proofs.Tables.{at_with_same, with_at, with_with}
 use Rattle.logic.proofs.Thens.{err_ok, ok_inj}
 use Rattle.logic.specs.Adding.{add, add_all, told}
 use Rattle.logic.specs.Outcomes.{Outcome, then}
-use Rattle.logic.specs.declared.shortage.Shortage.{Shortage}
 use Rattle.logic.specs.declared.shortage.Shortage.TheVariants.{Rows}
-use Rattle.rows.specs.Rows.{equal}
 use Rattle.rows.specs.declared.row.Row.{Row}
-use Rattle.std.proofs.lemmas.List.{drop_all, drop_more}
 use Rattle.std.proofs.lemmas.Bool.{le-ltb, lt-ltb}
 
 module _ {B : Type 0} (m : Model B) where
-  -- a hunt for an equal row, from the i-th row of a list on
-  module _ (rows : List (Row B)) (r : Row B) (i : ℕ) where
-    module _ (q : Row B) (inside : i < length rows) (read : q ≡ get_or rows i q) where
-      -- it ends where the row is equal
-      pub told_here : equal m q r ≡ true → told m (drop i rows) r ≡ true
-      unfolding told
-      told_here e = rw (drop_more rows i q inside, ← read, e)
-
-      -- it goes on where the row is not
-      pub told_more : equal m q r ≡ false → told m (drop i rows) r ≡ told m (drop (i + 1) rows) r
-      unfolding told
-      told_more e = rw (drop_more rows i q inside, ← read, e)
-
-    -- no row is left
-    pub told_all : length rows ≤ i → told m (drop i rows) r ≡ false
-    unfolding told
-    told_all past = rw (drop_all i rows past)
-
   -- rows added in two goes
   pub add_all-append : (limit : ℕ) (rows xs ys : List (Row B))
       → add_all m limit rows (xs ++ ys) ≡ then (add_all m limit rows xs) (λ more. add_all m limit more ys)
@@ -47,14 +26,14 @@ module _ {B : Type 0} (m : Model B) where
       step (Ok more) h = h more
       step (Err e) h = refl
 
-  module _ (t : Table B) (i : ℕ) where
+  module _ (t : Table (Row B)) (i : ℕ) where
     -- nothing added
     pub adding_none : adding m t i [] ≡ Ok t
     unfolding adding add_all
     adding_none = ap Ok (with_at t i)
 
     -- the table that is left differs in its list alone
-    pub adding_but : {t' : Table B} (rs : List (Row B)) → i < length t.lists → Ok t' ≡ adding m t i rs
+    pub adding_but : {t' : Table (Row B)} (rs : List (Row B)) → i < length t.lists → Ok t' ≡ adding m t i rs
         → t' ≡ with_list t i (at t' i)
     unfolding adding
     adding_but {t'} rs inside did = step (add_all m t.limit (at t i) rs) did
@@ -87,26 +66,6 @@ module _ {B : Type 0} (m : Model B) where
             ∙ ap (λ more. then (add_all m t.limit more ys) (λ all. Ok (with_list (with_list t i rows) i all)))
             (sym (at_with_same t rows inside))
         step (Err e) = refl
-
-    -- the list that is left
-    pub adding-at : {t' : Table B} (rs : List (Row B)) → i < length t.lists → Ok t' ≡ adding m t i rs
-        → add_all m t.limit (at t i) rs ≡ Ok (at t' i)
-    unfolding adding
-    adding-at {t'} rs inside did = step (add_all m t.limit (at t i) rs) did
-      where
-        step : (o : Outcome (List (Row B))) → Ok t' ≡ then o (λ rows. Ok (with_list t i rows)) → o ≡ Ok (at t' i)
-        step (Ok rows) e = ap Ok (sym (ap (λ u. at u i) (ok_inj e) ∙ at_with_same t rows inside))
-        step (Err x) e = absurd (err_ok (sym e))
-
-    -- the list has no room for them
-    pub adding_short : {s : Shortage} (rs : List (Row B)) → Err s ≡ adding m t i rs
-        → add_all m t.limit (at t i) rs ≡ Err s
-    unfolding adding
-    adding_short {s} rs did = step (add_all m t.limit (at t i) rs) did
-      where
-        step : (o : Outcome (List (Row B))) → Err s ≡ then o (λ rows. Ok (with_list t i rows)) → o ≡ Err s
-        step (Ok rows) e = absurd (err_ok e)
-        step (Err x) e = cc
 
     module _ (r : Row B) where
       -- a row that need not be added

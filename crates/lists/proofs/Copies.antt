@@ -1,78 +1,68 @@
--- Rows copied from the stretch of one list into that of another, one by one.
-use Rattle.std.proofs.Common.{◌≡◌, ℕ, ◌+◌, ◌*◌, ◌%◌, ◌<◌, ◌≤◌, List, [], ◌∷◌, ◌++◌, length, get_or, take, set, sym, refl, ap, ◌∙◌, arith}
+-- Rows copied in one go from the stretch of one list into that of another.
+use Rattle.std.proofs.Common.{◌≡◌, ℕ, zero, suc, ◌+◌, ◌-◌, ◌*◌, ◌<◌, ◌≤◌, List, [], ◌∷◌, ◌++◌, length, get_or, take, drop, set, sym, ap, ◌∙◌, suc-mul, zero-mul, arith, length-append}
 use Rattle.lists.specs.Lent.{cut}
-use Rattle.lists.proofs.Cuts.{cut_clear, cut_push, length_at_cut, length_cut, read_cut}
-use Rattle.lists.proofs.Lent.{within_set}
-use Rattle.std.proofs.lemmas.Nat.{mod-mul-add}
-use Rattle.std.proofs.lemmas.List.{get_or-set_other, get_or-set_same, length-set, set-set, take_all, take_more}
+use Rattle.std.proofs.Math.Seq.{paste}
+use Rattle.std.proofs.lemmas.List.{drop-append-le, drop-drop, drop-take, length-drop, length-take-le, take-append-le, take-take}
+use Rattle.std.proofs.lemmas.List.Edits.{drop-paste}
 
--- two places of stretches, which may be one, are apart where the rows are
-apart : (i j limit k n : ℕ) → k < limit → n < limit → (k ≡ n → ⊥) → i * limit + k ≡ j * limit + n → ⊥
-apart i j limit k n inside within other e =
-    other (sym (mod-mul-add i limit k inside) ∙ ap (λ p. p % limit) e ∙ mod-mul-add j limit n within)
+-- the first n of s are pasted over what d has from a place on
+module _ {A : Type 0} (d s : List A) (n : ℕ) where
+  -- what lies behind them is as it was
+  drop_past : (place k : ℕ) → place + n ≤ k → place ≤ length d → n ≤ length s → drop k (paste d place s n) ≡ drop k d
+  drop_past place k past inside fits =
+      let more = k - (place + n) in
+      let e : k ≡ (place + n) + more = omega (arith, past) in
+      ap (λ j. drop j (paste d place s n)) e ∙ sym (drop-drop more (place + n) (paste d place s n))
+      ∙ ap (drop more) (drop-paste d place s n inside fits)
+      ∙ drop-drop more (place + n) d ∙ ap (λ j. drop j d) (sym e)
 
--- So many rows of the list `from` have been copied to `to`: rows0 are the rows at the start, and rows those now.
-pub record Copied {A : Type 0} (limit : ℕ) (ns : List ℕ) (from to : ℕ) (rows0 rows : List A) (i : ℕ) : Type 0 where
-  pub size : length rows ≡ length rows0
-  -- with them alone in `to`, the lists are these
-  pub done : cut limit (set ns to i) rows ≡ set (cut limit ns rows0) to (take i (get_or (cut limit ns rows0) from []))
-  -- the others stand where they did
-  pub ahead : (k : ℕ) (r : A) → i ≤ k → k < limit → get_or rows (from * limit + k) r ≡ get_or rows0 (from * limit + k) r
+  module _ (place k : ℕ) (inside : place ≤ length d) (before : k ≤ place) where
+    head : k ≤ length (take place d)
+    head = omega (arith, length-take-le place d inside, before)
 
-pub copy_none : {A : Type 0} (limit : ℕ) (ns : List ℕ) (from to : ℕ) (rows : List A)
-    → Copied limit ns from to rows rows 0
-copy_none limit ns from to rows =
-    record { size = refl; done = cut_clear limit ns rows to; ahead = λ k r le lt. refl }
+    heads : k ≤ length (take place d ++ take n s)
+    heads = omega (arith, length-append (take place d) (take n s), head)
 
-module _ {A : Type 0} {limit : ℕ} {ns : List ℕ} {from to : ℕ} {rows0 rows : List A} {i : ℕ}
-    (c : Copied limit ns from to rows0 rows i) (within : (j : ℕ) → get_or ns j 0 ≤ limit) (known : from < length ns)
-    (fits : from * limit + get_or ns from 0 ≤ length rows0) where
-  abbrev source : List A
-  source = get_or (cut limit ns rows0) from []
+    -- what lies before them is as it was
+    take_before : take k (paste d place s n) ≡ take k d
+    take_before =
+        take-append-le k (take place d ++ take n s) (drop (place + n) d) heads
+        ∙ take-append-le k (take place d) (take n s) head ∙ take-take k place d before
 
-  length-source : length source ≡ get_or ns from 0
-  length-source = length_at_cut limit ns rows0 from known fits
+  -- at the front they come first
+  take_front : n ≤ length s → take n (paste d 0 s n) ≡ take n s
+  take_front fits =
+      take-append-le n (take n s) (drop (0 + n) d) (omega (arith, length-take-le n s fits))
+      ∙ take-take n n s (omega arith)
 
-  pub copy_all : i ≡ get_or ns from 0
-      → cut limit (set ns to (get_or ns from 0)) rows ≡ set (cut limit ns rows0) to (get_or (cut limit ns rows0) from [])
-  copy_all e =
-      ap (λ n. cut limit (set ns to n) rows) (sym e) ∙ c.done
-      ∙ ap (set (cut limit ns rows0) to) (take_all i source (omega (arith, length-source)))
+  -- without what lies before them they are pasted into the rest
+  drop_through : (k p : ℕ) → k + p ≤ length d → drop k (paste d (k + p) s n) ≡ paste (drop k d) p s n
+  drop_through k p inside =
+      let before : k ≤ k + p = omega arith in
+      let rest : k + (p + n) ≡ (k + p) + n = omega arith in
+      drop-append-le k (take (k + p) d ++ take n s) (drop ((k + p) + n) d) (heads (k + p) k inside before)
+      ∙ ap (λ xs. xs ++ drop ((k + p) + n) d)
+      (drop-append-le k (take (k + p) d) (take n s) (head (k + p) k inside before)
+      ∙ ap (λ xs. xs ++ take n s) (drop-take k p d))
+      ∙ ap (λ xs. (take p (drop k d) ++ take n s) ++ xs)
+      (sym (drop-drop (p + n) k d ∙ ap (λ j. drop j d) rest))
 
-  module _ (known' : to < length ns) {r : A} (below : i < get_or ns from 0) (place : to * limit + i < length rows)
-      (read : r ≡ get_or rows (from * limit + i) r) where
-    less : i < limit
-    less = omega (arith, within from)
-
-    -- the row is the list's
-    got : r ≡ get_or source i r
-    got = read_cut limit ns rows0 from known i r below (read ∙ c.ahead i r (omega arith) less)
-
-    more : take i source ++ r ∷ [] ≡ take (i + 1) source
-    more = sym (take_more source i r (omega (arith, length-source)) ∙ ap (λ q. take i source ++ q ∷ []) (sym got))
-
-    -- with the row behind those that have been copied
-    pushed : cut limit (set ns to (i + 1)) (set rows (to * limit + i) r)
-        ≡ set (cut limit (set ns to i) rows) to (get_or (cut limit (set ns to i) rows) to [] ++ r ∷ [])
-    pushed =
-        let same : get_or (set ns to i) to 0 ≡ i = get_or-set_same ns to i 0 known' in
-        let inside : to < length (set ns to i) = simp length-set known' in
-        let small = within_set ns to i limit within (omega (arith, less)) known' in
-        let push = cut_push limit (set ns to i) rows to r inside small (omega (arith, less)) (omega arith) in
-        ap (λ zs. cut limit zs (set rows (to * limit + i) r)) (sym (set-set ns to i (i + 1))) ∙ (rw same at push)
-
-    pub copy_more : Copied limit ns from to rows0 (set rows (to * limit + i) r) (i + 1)
-    copy_more =
-        let lists = cut limit ns rows0 in
-        let inside : to < length lists = omega (arith, length_cut limit ns rows0) in
-        let here = get_or-set_same lists to (take i source) [] inside in
-        record {
-          size = length-set rows (to * limit + i) r ∙ c.size;
-          done = pushed ∙ ap (λ ls. set ls to (get_or ls to [] ++ r ∷ [])) c.done
-              ∙ set-set lists to (take i source) _
-              ∙ ap (set lists to) (ap (λ rs. rs ++ r ∷ []) here ∙ more);
-          ahead = λ k q after inside.
-              get_or-set_other rows (to * limit + i) (from * limit + k) r q
-              (apart from to limit k i inside less (λ e. omega arith))
-              ∙ c.ahead k q (omega arith) inside;
-        }
+-- rows pasted into the stretch of a list, which gets that length, are the list
+pub cut_paste : {A : Type 0} (limit : ℕ) (ns : List ℕ) (rows s : List A) (i n : ℕ) → i < length ns
+    → ((j : ℕ) → get_or ns j 0 ≤ limit) → n ≤ limit → n ≤ length s → i * limit + n ≤ length rows
+    → cut limit (set ns i n) (paste rows (i * limit) s n) ≡ set (cut limit ns rows) i (take n s)
+cut_paste limit [] rows s i n inside within small fits room = absurd (omega arith)
+cut_paste limit (m ∷ ns) rows s zero n inside within small fits room =
+    rw (zero-mul limit)
+    (ap (λ xs. xs ∷ cut limit ns (drop limit (paste rows 0 s n))) (take_front rows s n fits)
+    ∙ ap (λ xs. take n s ∷ cut limit ns xs) (drop_past rows s n 0 limit (omega arith) (omega arith) fits))
+cut_paste limit (m ∷ ns) rows s (suc i) n inside within small fits room =
+    let below : m ≤ limit = within 0 in
+    let there : suc i * limit ≡ limit + i * limit = omega (arith, suc-mul i limit) in
+    let room' : i * limit + n ≤ length (drop limit rows) = simp length-drop (omega (arith, there)) in
+    rw there
+    (ap (λ xs. xs ∷ cut limit (set ns i n) (drop limit (paste rows (limit + i * limit) s n)))
+    (take_before rows s n (limit + i * limit) m (omega (arith, there)) (omega arith))
+    ∙ ap (λ xs. take m rows ∷ cut limit (set ns i n) xs) (drop_through rows s n limit (i * limit) (omega (arith, there)))
+    ∙ ap (λ lists. take m rows ∷ lists)
+    (cut_paste limit ns (drop limit rows) s i n (omega arith) (λ j. within (suc j)) small fits room'))

@@ -66,3 +66,7 @@ pub getD_zeros : (n i : ℕ) → get_or {A = ℕ} (replicate n 0) i 0 ≡ 0
 getD_zeros zero i = refl
 getD_zeros (suc n) zero = refl
 getD_zeros (suc n) (suc i) = getD_zeros n i
+
+-- each of so many zeros is within any limit
+pub zeros_within : (n limit i : ℕ) → get_or {A = ℕ} (replicate n 0) i 0 ≤ limit
+zeros_within n limit i = rw (getD_zeros n i) (omega arith)

@@ -1,5 +1,5 @@
--- Witnesses in a lent table, and the number of one that is hunted for.
-use Rattle.std.proofs.Common.{◌≡◌, ℕ, ◌+◌, ◌<◌, ◌≤◌, true, false, List, [], ◌∷◌, ◌++◌, length, get_or, drop, Some, None, Ok, Err, sym, ap, ◌∙◌, arith}
+-- Witnesses in a lent table, and what forming one more leaves.
+use Rattle.std.proofs.Common.{◌≡◌, ℕ, suc, ◌+◌, ◌<◌, ◌≤◌, Bool, true, false, cond, List, [], ◌∷◌, ◌++◌, length, Some, None, Ok, Err, ap, ◌∙◌, arith}
 use Rattle.kinds.specs.Model.{Model}
 use Rattle.lists.specs.Formed.{formed_in}
 use Rattle.lists.specs.declared.witnesses.Witnesses.{Witnesses}
@@ -8,36 +8,15 @@ use Rattle.logic.specs.declared.shortage.Shortage.TheVariants.{Witnesses as TooM
 use Rattle.rows.specs.Forests.{most_witnesses}
 use Rattle.rows.specs.Witnesses.{equal_witness}
 use Rattle.rows.specs.declared.witness.Witness.{Witness}
-use Rattle.std.proofs.lemmas.List.{drop_all, drop_more, get_or-take, length-take-le}
+use Rattle.std.proofs.lemmas.List.{length-take-le}
 use Rattle.std.proofs.lemmas.Bool.{le-ltb, lt-ltb}
 
-module _ {B : Type 0} (ws : Witnesses) (table : List (Witness B)) where
-  -- there are as many as the count says
-  pub length_formed : length table ≡ most_witnesses → length (formed_in ws table) ≡ ws.count
-  unfolding formed_in
-  length_formed lent = length-take-le ws.count table (omega (arith, ws.few))
+-- there are as many as the count says
+pub length_formed : {W : Type 0} (ws : Witnesses W) → length (formed_in ws) ≡ ws.count
+unfolding formed_in
+length_formed ws = length-take-le ws.count ws.table.now (omega (arith, ws.few, ws.lent))
 
-  pub formed_read : (i : ℕ) (u : Witness B) → i < ws.count → u ≡ get_or table i u → u ≡ get_or (formed_in ws table) i u
-  unfolding formed_in
-  formed_read i u below read = read ∙ sym (get_or-take ws.count table i u below)
-
--- a hunt for an equal witness, from the i-th on
 module _ {B : Type 0} (m : Model B) (us : List (Witness B)) (w : Witness B) where
-  module _ (i : ℕ) where
-    module _ (u : Witness B) (inside : i < length us) (read : u ≡ get_or us i u) where
-      -- it ends where the witness is equal
-      pub number_here : equal_witness m u w ≡ true → number_from m i (drop i us) w ≡ Some i
-      number_here e = rw (drop_more us i u inside, ← read, e)
-
-      -- it goes on where the witness is not
-      pub number_more : equal_witness m u w ≡ false
-          → number_from m i (drop i us) w ≡ number_from m (i + 1) (drop (i + 1) us) w
-      number_more e = rw (drop_more us i u inside, ← read, e)
-
-    -- no witness is left
-    pub number_all : length us ≤ i → number_from m i (drop i us) w ≡ None
-    number_all past = rw (drop_all i us past)
-
   -- an equal witness is there
   pub form_old : (i : ℕ) → number_from m 0 us w ≡ Some i → form m us w ≡ Ok (record { witnesses = us; number = i })
   unfolding form
@@ -54,3 +33,14 @@ module _ {B : Type 0} (m : Model B) (us : List (Witness B)) (w : Witness B) wher
     pub form_full : most_witnesses ≤ length us → form m us w ≡ Err TooMany
     unfolding form
     form_full full = ap (numbered m us w) none ∙ rw (le-ltb (length us) most_witnesses full)
+
+-- the number of an equal witness is one of theirs
+pub number_below : {B : Type 0} (m : Model B) (us : List (Witness B)) (w : Witness B) (i n : ℕ)
+    → Some n ≡ number_from m i us w → n < i + length us
+number_below m [] w i n e = cc
+number_below m (u ∷ us) w i n e = here (equal_witness m u w) (λ later. number_below m us w (i + 1) n later) e
+  where
+    here : (b : Bool) → (Some n ≡ number_from m (i + 1) us w → n < i + 1 + length us)
+        → Some n ≡ cond b (Some i) (number_from m (i + 1) us w) → n < i + suc (length us)
+    here true below e' = let same : n ≡ i = cc in omega arith
+    here false below e' = omega (arith, below e')

@@ -10,7 +10,7 @@ use Rattle.rows.specs.declared.row.Row.{Row}
 use Rattle.std.proofs.lemmas.Result.{err_from_is_err_and}
 
 -- A walk from the table t0 is to add `all` to the list dest; the table is t now, and `rest` is left to add.
-pub record Walked {B : Type 0} (m : Model B) (t0 t : Table B) (dest : ℕ) (rest all : List (Row B)) : Type 0 where
+pub record Walked {B : Type 0} (m : Model B) (t0 t : Table (Row B)) (dest : ℕ) (rest all : List (Row B)) : Type 0 where
   -- no other list has changed, nor the limit
   pub but : t ≡ with_list t0 dest (at t dest)
   -- the rest leads from here to where all leads from the start
@@ -18,13 +18,10 @@ pub record Walked {B : Type 0} (m : Model B) (t0 t : Table B) (dest : ℕ) (rest
 
 module _ {B : Type 0} {m : Model B} where
   -- no step is made yet
-  pub walk_none : (t0 : Table B) (dest : ℕ) (all : List (Row B)) → Walked m t0 t0 dest all all
+  pub walk_none : (t0 : Table (Row B)) (dest : ℕ) (all : List (Row B)) → Walked m t0 t0 dest all all
   walk_none t0 dest all = record { but = sym (with_at t0 dest); left = refl }
 
-  module _ {t0 t : Table B} {dest : ℕ} {rest all : List (Row B)} (w : Walked m t0 t dest rest all) where
-    pub walk_limit : t.limit ≡ t0.limit
-    walk_limit = ap (λ (u : Table B). u.limit) w.but
-
+  module _ {t0 t : Table (Row B)} {dest : ℕ} {rest all : List (Row B)} (w : Walked m t0 t dest rest all) where
     -- another list is as it was
     pub walk_other : {j : ℕ} → (j ≡ dest → ⊥) → at t j ≡ at t0 j
     walk_other {j} other = ap (λ u. at u j) w.but ∙ at_with_other t0 (at t dest) other
@@ -45,14 +42,14 @@ module _ {B : Type 0} {m : Model B} where
       still : dest < length t.lists
       still =
           let same : length t.lists ≡ length t0.lists
-          = ap (λ (u : Table B). length u.lists) w.but ∙ length_with t0 dest (at t dest) in
+          = ap (λ (u : Table (Row B)). length u.lists) w.but ∙ length_with t0 dest (at t dest) in
           omega arith
 
       both : then (adding m t dest xs) (λ u. adding m u dest rest') ≡ adding m t0 dest all
       both = sym (ap (adding m t dest) e ∙ adding-append m t dest xs rest' still) ∙ w.left
 
       -- a call has added the next rows
-      pub walk_more : {t' : Table B} → Ok t' ≡ adding m t dest xs → Walked m t0 t' dest rest' all
+      pub walk_more : {t' : Table (Row B)} → Ok t' ≡ adding m t dest xs → Walked m t0 t' dest rest' all
       walk_more {t'} did =
           let now = adding_but m t dest xs still did in
           record {
@@ -64,18 +61,7 @@ module _ {B : Type 0} {m : Model B} where
       pub walk_stop : {s : Shortage} → Err s ≡ adding m t dest xs → Err s ≡ adding m t0 dest all
       walk_stop did = ap (λ o. then o (λ u. adding m u dest rest')) did ∙ both
 
--- two calls, one after the other, on the same list
-module _ {B : Type 0} (m : Model B) (t0 : Table B) {dest : ℕ} (inside : dest < length t0.lists)
-    (xs ys : List (Row B)) where
-  pub adding_then : {t : Table B} {o : Outcome (Table B)} → Ok t ≡ adding m t0 dest xs → o ≡ adding m t dest ys
-      → o ≡ adding m t0 dest (xs ++ ys)
-  adding_then first second = second ∙ (walk_more (walk_none t0 dest (xs ++ ys)) inside xs ys refl first).left
-
-  -- the first has refused
-  pub adding_stop : {s : Shortage} → Err s ≡ adding m t0 dest xs → Err s ≡ adding m t0 dest (xs ++ ys)
-  adding_stop first = walk_stop (walk_none t0 dest (xs ++ ys)) inside xs ys refl first
-
 -- what a function leaves that passes a refusal on
-pub stopped : {A B : Type 0} (r : Result A Shortage) {s : Shortage} (t : Table B) {o : Outcome (Table B)}
+pub stopped : {A B : Type 0} (r : Result A Shortage) {s : Shortage} (t : Table (Row B)) {o : Outcome (Table (Row B))}
     → IsErrAnd r (λ e. e ≡ s) → Err s ≡ o → left_by r t ≡ o
 stopped r t by did = let p = err_from_is_err_and r by in rw (p.1, p.2) did

@@ -1,6 +1,9 @@
 // Lists of rows and the table of witnesses, both in memory that the caller lends.
-// One equation for each call says what it gives, what it leaves in every list, and when it refuses.
+// One clause for each call says what it gives, what it leaves in every list, and when it refuses.
 #![tactic(auto)]
+
+// Which list.
+pub mod slot;
 
 // Lists of at most so many rows.
 pub mod lists;

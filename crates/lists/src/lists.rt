@@ -1,21 +1,26 @@
 // Where the lists of a lent table lie: list i has the rows from i * limit on, and its length says how many.
-ghost use Rattle.std.specs.Prelude.{◌≡◌, ℕ, ◌≤◌, length, slice_index};
+ghost use Rattle.std.specs.Prelude.{◌≡◌, ℕ, ◌*◌, ◌≤◌, length, slice_index};
 ghost use Rattle.lists.specs.Counts.{list_count, most_rows};
 
 mod adding;
+mod making;
 mod pairing;
 mod reading;
+mod writing;
 
 /// How many lists there are: one for each line of a sheet, and four for working.
 pub const LISTS: usize = 36;
 
-/// The lists of a lent table: how many rows a list may have, and how many each has. The rows themselves are lent to
-/// each call.
+/// Lists of at most `limit` rows each, in rows that are lent. R is the sort of row, `Row<B>` for boxes B: so named, its
+/// size is known wherever the lists are.
 #[derive(Drop)]
-pub struct Lists {
+pub struct Lists<'a, R> {
+    rows: &'a mut [R],
     limit: usize,
+    // Beside the rows, since what is lent has room for rows alone.
     lengths: [usize; LISTS],
     ghost small: { limit ≤ most_rows },
+    ghost lent: { length rows.now ≡ list_count * limit },
     ghost many: { length lengths ≡ list_count },
     ghost within: { (i : ℕ) → slice_index lengths i ≤ limit },
 }

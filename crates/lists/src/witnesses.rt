@@ -1,5 +1,5 @@
 // The table of witnesses: those that a check has formed stand at its front, each at its number.
-ghost use Rattle.std.specs.Prelude.{◌≤◌};
+ghost use Rattle.std.specs.Prelude.{◌≡◌, ◌≤◌, length};
 ghost use Rattle.rows.specs.Forests.{most_witnesses};
 
 mod counting;
@@ -8,9 +8,13 @@ mod forming;
 /// The most witnesses of a check.
 pub const MOST_WITNESSES: usize = 256;
 
-/// How many witnesses of a lent table have been formed. The table itself is lent to each call.
+/// The witnesses that have been formed, at the front of a table that is lent. W is the sort of witness, `Witness<B>`
+/// for boxes B.
 #[derive(Drop)]
-pub struct Witnesses {
+pub struct Witnesses<'a, W> {
+    table: &'a mut [W],
+    // Beside the table, which is lent whole and holds witnesses alone.
     count: usize,
+    ghost lent: { length table.now ≡ most_witnesses },
     ghost few: { count ≤ most_witnesses },
 }

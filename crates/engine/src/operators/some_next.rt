@@ -1,40 +1,37 @@
 // `N`: the rows at successors, rewritten.
-ghost use Rattle.std.specs.Prelude.{◌≡◌, ◌<◌, ◌≢◌};
-ghost use Rattle.flow.specs.Cases.{graph_in};
+ghost use Rattle.std.specs.Prelude.{◌≢◌};
 ghost use Rattle.flow.specs.Graph.{successors};
-ghost use Rattle.lists.specs.Counts.{list_count};
-ghost use Rattle.lists.specs.Lent.{Lent, table_in};
-ghost use Rattle.lists.specs.Tables.{adding, at, left_by};
+ghost use Rattle.lists.specs.Changes.{Adds};
+ghost use Rattle.lists.specs.Lent.{table_in};
+ghost use Rattle.lists.specs.Tables.{at};
 ghost use Rattle.logic.specs.Operators.{moved, stepped};
 ghost use Rattle.std.specs.List.{flat_map};
 
 use flow::case::Case;
 use kinds::kind::Kind;
 use lists::lists::Lists;
+use lists::slot::Slot;
 use logic::shortage::Shortage;
 use rows::row::Row;
 
-// Adds to `dest` the rows of a list that are at the state `from`, rewritten to the state `to`.
+// Adds to `dest` the rows of a list that are at the state `from`, rewritten to the state `to`. A row is read by its
+// number, since the list that is walked and the list that grows lie in the same lent rows.
 fn add_moved<K: Kind>(
-    lists: &mut Lists,
-    rows: &mut [Row<K::Box>],
-    list: usize,
+    lists: &mut Lists<'_, Row<K::Box>>,
+    list: Slot,
     from: u32,
     to: u32,
-    dest: usize,
+    dest: Slot,
 ) -> Result<(), Shortage>
-    requires lent { Lent lists.old rows.old }
-    requires known { (list < list_count) × (dest < list_count) }
-    requires apart { list ≢ dest }
-    ensures { let table = table_in lists.old rows.old in
-        left_by result (table_in lists.new rows.new)
-        ≡ adding K.model table dest (moved K.model to from (at table list)) }
+    requires { list.number ≢ dest.number }
+    ensures { let rows = at (table_in lists.old) list.number in
+        Adds K.model result lists.old lists.new dest.number (moved K.model to from rows) }
 {
-    for i in 0..lists.len::<K>(rows, list) {
-        let mut row = lists.get::<K>(rows, list, i);
+    for i in 0..lists.len(list) {
+        let mut row = lists.get(list, i);
         if row.state == from {
             row.state = to;
-            lists.add::<K>(rows, dest, row)?;
+            lists.add::<K>(dest, row)?;
         }
     }
     Ok(())
@@ -43,23 +40,19 @@ fn add_moved<K: Kind>(
 // Adds to `dest`, for each successor of a state in edge order, the rows of a list that are there, moved to the state.
 fn state_successors<K: Kind>(
     case: &Case,
-    lists: &mut Lists,
-    rows: &mut [Row<K::Box>],
-    list: usize,
+    lists: &mut Lists<'_, Row<K::Box>>,
+    list: Slot,
     state: u32,
-    dest: usize,
+    dest: Slot,
 ) -> Result<(), Shortage>
-    requires lent { Lent lists.old rows.old }
-    requires known { (list < list_count) × (dest < list_count) }
-    requires apart { list ≢ dest }
-    ensures { let table = table_in lists.old rows.old in
-        let leads = successors (graph_in case.now) state in
-        left_by result (table_in lists.new rows.new)
-        ≡ adding K.model table dest (flat_map (λ t. moved K.model state t (at table list)) leads) }
+    requires { list.number ≢ dest.number }
+    ensures { let rows = at (table_in lists.old) list.number in
+        let leads = successors case.now.graph state in
+        Adds K.model result lists.old lists.new dest.number (flat_map (λ t. moved K.model state t rows) leads) }
 {
     for edge in case.edges() {
         if edge.from == state {
-            add_moved::<K>(lists, rows, list, edge.to, state, dest)?;
+            add_moved::<K>(lists, list, edge.to, state, dest)?;
         }
     }
     Ok(())
@@ -69,20 +62,16 @@ fn state_successors<K: Kind>(
 /// rewritten to the state.
 pub fn some_next<K: Kind>(
     case: &Case,
-    lists: &mut Lists,
-    rows: &mut [Row<K::Box>],
-    list: usize,
-    dest: usize,
+    lists: &mut Lists<'_, Row<K::Box>>,
+    list: Slot,
+    dest: Slot,
 ) -> Result<(), Shortage>
-    requires lent { Lent lists.old rows.old }
-    requires known { (list < list_count) × (dest < list_count) }
-    requires apart { list ≢ dest }
-    ensures { let table = table_in lists.old rows.old in
-        left_by result (table_in lists.new rows.new)
-        ≡ adding K.model table dest (stepped K.model (graph_in case.now) (at table list)) }
+    requires { list.number ≢ dest.number }
+    ensures { let rows = at (table_in lists.old) list.number in
+        Adds K.model result lists.old lists.new dest.number (stepped K.model case.now.graph rows) }
 {
     for state in 0..case.states() {
-        state_successors::<K>(case, lists, rows, list, state, dest)?;
+        state_successors::<K>(case, lists, list, state, dest)?;
     }
     Ok(())
 }

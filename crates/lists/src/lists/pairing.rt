@@ -1,35 +1,35 @@
 // The pairing of two lists, added to a third.
-ghost use Rattle.std.specs.Prelude.{◌≡◌, ◌<◌, [], ◌∷◌, ◌≢◌};
-ghost use Rattle.lists.specs.Counts.{list_count};
-ghost use Rattle.lists.specs.Lent.{Lent, table_in};
-ghost use Rattle.lists.specs.Tables.{adding, at, left_by};
+ghost use Rattle.std.specs.Prelude.{[], ◌∷◌, ◌≢◌};
+ghost use Rattle.lists.specs.Changes.{Adds};
+ghost use Rattle.lists.specs.Lent.{table_in};
+ghost use Rattle.lists.specs.Tables.{at};
 ghost use Rattle.logic.specs.Adding.{pairs};
 
 use crate::lists::Lists;
+use crate::slot::Slot;
 use kinds::kind::Kind;
 use logic::shortage::Shortage;
 use rows::row::Row;
 
-impl Lists {
+// A row is read by its number in these loops: the list that is walked and the list that grows lie in the same lent
+// rows, so no borrow of the one can last while the other is written.
+impl<'a, B: Copy> Lists<'a, Row<B>> {
     // Adds to `dest` what a row joins to with each row of a list, in order.
-    fn pair_row<K: Kind>(
+    fn pair_row<K: Kind<Box = B>>(
         &mut self,
-        rows: &mut [Row<K::Box>],
-        row: &Row<K::Box>,
-        list: usize,
-        dest: usize,
+        row: Row<B>,
+        list: Slot,
+        dest: Slot,
     ) -> Result<(), Shortage>
-        requires lent { Lent self.old rows.old }
-        requires known { (list < list_count) × (dest < list_count) }
-        requires apart { list ≢ dest }
-        ensures { let table = table_in self.old rows.old in
-            left_by result (table_in self.new rows.new)
-            ≡ adding K.model table dest (pairs K.model (row.now ∷ []) (at table list)) }
+        // A fact about two arguments of one call: a type for the pair would be made and taken apart at each call.
+        requires { list.number ≢ dest.number }
+        ensures { let rows = at (table_in self.old) list.number in
+            Adds K.model result self.old self.new dest.number (pairs K.model (row ∷ []) rows) }
     {
-        for i in 0..self.len::<K>(rows, list) {
-            let other = self.get::<K>(rows, list, i);
+        for i in 0..self.len(list) {
+            let other = self.get(list, i);
             if let Some(both) = row.join::<K>(&other) {
-                self.add::<K>(rows, dest, both)?;
+                self.add::<K>(dest, both)?;
             }
         }
         Ok(())
@@ -37,23 +37,21 @@ impl Lists {
 
     /// Adds to `dest` the pairing of list `first` with list `second`: each row of the one joined with each of the
     /// other, where they join. Refuses where a row is new to a full list.
-    pub fn pair<K: Kind>(
+    pub fn pair<K: Kind<Box = B>>(
         &mut self,
-        rows: &mut [Row<K::Box>],
-        first: usize,
-        second: usize,
-        dest: usize,
+        first: Slot,
+        second: Slot,
+        dest: Slot,
     ) -> Result<(), Shortage>
-        requires lent { Lent self.old rows.old }
-        requires known { (first < list_count) × ((second < list_count) × (dest < list_count)) }
-        requires apart { (first ≢ dest) × (second ≢ dest) }
-        ensures { let table = table_in self.old rows.old in
-            left_by result (table_in self.new rows.new)
-            ≡ adding K.model table dest (pairs K.model (at table first) (at table second)) }
+        requires first_apart { first.number ≢ dest.number }
+        requires second_apart { second.number ≢ dest.number }
+        ensures { let table = table_in self.old in
+            Adds K.model result self.old self.new dest.number
+            (pairs K.model (at table first.number) (at table second.number)) }
     {
-        for i in 0..self.len::<K>(rows, first) {
-            let row = self.get::<K>(rows, first, i);
-            self.pair_row::<K>(rows, &row, second, dest)?;
+        for i in 0..self.len(first) {
+            let row = self.get(first, i);
+            self.pair_row::<K>(row, second, dest)?;
         }
         Ok(())
     }

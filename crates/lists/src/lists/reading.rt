@@ -1,42 +1,34 @@
 // What the lists hold.
-ghost use Rattle.std.specs.Prelude.{◌≡◌, ◌<◌, ◌≤◌, length, replicate, slice_index_or};
-ghost use Rattle.lists.specs.Counts.{list_count, most_rows};
-ghost use Rattle.lists.specs.Lent.{Lent, table_in};
+ghost use Rattle.std.specs.Prelude.{◌≡◌, ◌<◌, length, slice_index_or};
+ghost use Rattle.lists.specs.Lent.{table_in};
 ghost use Rattle.lists.specs.Tables.{at};
 
-use crate::lists::{LISTS, Lists};
-use kinds::kind::Kind;
-use rows::row::Row;
+use crate::lists::Lists;
+use crate::slot::Slot;
 
-impl Lists {
-    /// Every list empty, over any lent table.
-    pub fn new(limit: usize) -> Lists
-        requires { limit ≤ most_rows }
-        ensures limit { result.limit ≡ limit }
-        ensures empty { result.lengths ≡ replicate list_count 0 }
+impl<'a, R> Lists<'a, R> {
+    /// The rows of a list, in their order.
+    pub fn rows(&self, list: Slot) -> &[R]
+        ensures { result.now ≡ at (table_in self.now) list.number }
     {
-        Lists {
-            limit,
-            lengths: [0; LISTS],
-        }
+        let start = list.number * self.limit;
+        &self.rows[start..start + self.lengths[list.number]]
     }
 
     /// How many rows a list has.
-    pub fn len<K: Kind>(&self, rows: &[Row<K::Box>], list: usize) -> usize
-        requires lent { Lent self.now rows.now }
-        requires known { list < list_count }
-        ensures { result ≡ length (at (table_in self.now rows.now) list) }
+    pub fn len(&self, list: Slot) -> usize
+        ensures { result ≡ length (at (table_in self.now) list.number) }
     {
-        self.lengths[list]
+        self.lengths[list.number]
     }
+}
 
+impl<'a, R: Copy> Lists<'a, R> {
     /// The i-th row of a list.
-    pub fn get<K: Kind>(&self, rows: &[Row<K::Box>], list: usize, i: usize) -> Row<K::Box>
-        requires lent { Lent self.now rows.now }
-        requires known { list < list_count }
-        requires inside { i < length (at (table_in self.now rows.now) list) }
-        ensures { result ≡ slice_index_or (at (table_in self.now rows.now) list) i result }
+    pub fn get(&self, list: Slot, i: usize) -> R
+        requires { i < length (at (table_in self.now) list.number) }
+        ensures { result ≡ slice_index_or (at (table_in self.now) list.number) i result }
     {
-        rows[list * self.limit + i]
+        self.rows(list)[i]
     }
 }

@@ -1,19 +1,31 @@
 // How many witnesses there are.
-ghost use Rattle.std.specs.Prelude.{◌≡◌};
+ghost use Rattle.std.specs.Prelude.{◌≡◌, [], length};
+ghost use Rattle.lists.specs.Formed.{formed_in};
+ghost use Rattle.rows.specs.Forests.{most_witnesses};
 
 use crate::witnesses::Witnesses;
 
-impl Witnesses {
-    /// No witness yet, in any table.
-    pub fn none() -> Witnesses
-        ensures { result.count ≡ 0 }
+impl<'a, W> Witnesses<'a, W> {
+    /// No witness yet. The table is lent for as long as the witnesses are there.
+    pub fn none(table: &'a mut [W]) -> Witnesses<'a, W>
+        requires { length table.old ≡ most_witnesses }
+        ensures same_table { result.table.ghost_name ≡ table.entry.ghost_name }
+        ensures as_it_was { result.table.now ≡ table.old }
+        ensures none { formed_in result ≡ [] }
     {
-        Witnesses { count: 0 }
+        Witnesses { table, count: 0 }
+    }
+
+    /// The witnesses, each at its number.
+    pub fn as_slice(&self) -> &[W]
+        ensures { result.now ≡ formed_in self.now }
+    {
+        &self.table[..self.count]
     }
 
     /// How many witnesses there are.
     pub fn count(&self) -> usize
-        ensures { result ≡ self.now.count }
+        ensures { result ≡ length (formed_in self.now) }
     {
         self.count
     }

@@ -1,49 +1,39 @@
 // Forming witnesses.
-ghost use Rattle.std.specs.Prelude.{◌≡◌, length};
-ghost use Rattle.lists.specs.Formed.{formed_by, formed_in};
-ghost use Rattle.logic.specs.Witnessing.{form, number_from};
-ghost use Rattle.rows.specs.Forests.{most_witnesses};
+ghost use Rattle.std.specs.Prelude.{◌≡◌};
+ghost use Rattle.lists.specs.Formed.{Forms, formed_in};
+ghost use Rattle.logic.specs.Witnessing.{number_from};
+ghost use Rattle.rows.specs.Witnesses.{equal_witness};
 
 use crate::witnesses::{MOST_WITNESSES, Witnesses};
 use kinds::kind::Kind;
 use logic::shortage::Shortage;
 use rows::witness::Witness;
 
-impl Witnesses {
+impl<'a, B: Copy> Witnesses<'a, Witness<B>> {
     // The number of the first witness that is equal to this one.
-    fn number<K: Kind>(&self, table: &[Witness<K::Box>], witness: &Witness<K::Box>) -> Option<u8>
-        requires { length table.now ≡ most_witnesses }
-        ensures { let formed = formed_in self.now table.now in
-            result ≡ number_from K.model 0 formed witness.now }
+    fn number<K: Kind<Box = B>>(&self, witness: &Witness<B>) -> Option<usize>
+        ensures { result ≡ number_from K.model 0 (formed_in self.now) witness.now }
     {
-        for i in 0..self.count {
-            let seen = table[i];
-            if seen.equals::<K>(witness) {
-                return Some(i as u8);
-            }
-        }
-        None
+        self.as_slice().iter().position(
+            |seen| -> bool
+                ensures { result ≡ equal_witness K.model seen.now witness.entry.now }
+            { seen.equals::<K>(witness) },
+        )
     }
 
     /// Forms a witness and answers its number: an equal one keeps its number, any other gets the next. Refuses one too
     /// many.
-    pub fn form<K: Kind>(
-        &mut self,
-        table: &mut [Witness<K::Box>],
-        witness: Witness<K::Box>,
-    ) -> Result<u8, Shortage>
-        requires { length table.old ≡ most_witnesses }
-        ensures { formed_by result (formed_in self.new table.new)
-            ≡ form K.model (formed_in self.old table.old) witness }
+    pub fn form<K: Kind<Box = B>>(&mut self, witness: Witness<B>) -> Result<u8, Shortage>
+        ensures { Forms K.model result self.old self.new witness }
     {
-        if let Some(n) = self.number::<K>(table, &witness) {
-            return Ok(n);
+        if let Some(n) = self.number::<K>(&witness) {
+            return Ok(n as u8);
         }
         let n = self.count;
         if n >= MOST_WITNESSES {
             return Err(Shortage::Witnesses);
         }
-        table[n] = witness;
+        self.table[n] = witness;
         self.count = n + 1;
         Ok(n as u8)
     }

@@ -1,4 +1,3 @@
-use Rattle.flow.specs.Cases.{graph_in}
 use Rattle.lists.proofs.Loops.{Looped}
 use Rattle.logic.specs.Operators.{of_label, states}
 use Rattle.std.specs.List.{flat_map}
@@ -8,6 +7,6 @@ use Rattle.engine.proofs.operators.predicate.predicate.Given as goal
 abbrev pub invariant-loop-state : goal.invariant-loop-state
 invariant-loop-state g l =
     let m = g.K.Kind.model in
-    let graph = graph_in l.case in
-    Looped m l.initial.lists l.initial.rows l.lists l.rows l.dest
-    (λ s. flat_map (of_label m graph l.predicate l.variables s) graph.labels) (states m graph) l.state
+    let graph = l.case.graph in
+    Looped m l.initial.lists l.lists l.dest.number
+    (λ s. flat_map (of_label m graph l.atom.predicate l.atom.variables.now s) graph.labels) (states m graph) l.state

@@ -1,4 +1,3 @@
-use Rattle.flow.specs.Cases.{graph_in}
 use Rattle.flow.specs.Held.{label_of}
 use Rattle.lists.proofs.Loops.{Looped}
 use Rattle.logic.specs.Operators.{of_label}
@@ -7,6 +6,7 @@ use Rattle.engine.proofs.operators.predicate.state_labels.Given as goal
 -- for each label of the case its row is added
 abbrev pub invariant-loop-label : goal.invariant-loop-label
 invariant-loop-label g l =
-    Looped g.K.Kind.model l.initial.lists l.initial.rows l.lists l.rows l.dest
-    (λ x. of_label g.K.Kind.model (graph_in l.case) l.predicate l.variables l.state (label_of x))
+    let m = g.K.Kind.model in
+    Looped m l.initial.lists l.lists l.dest.number
+    (λ x. of_label m l.case.graph l.atom.predicate l.atom.variables.now l.state (label_of x))
     l.label-items l.label-index

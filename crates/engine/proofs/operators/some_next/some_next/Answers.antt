@@ -1,49 +1,41 @@
-use Rattle.std.proofs.Common.{sym, ap, ◌∙◌, arith}
-use Rattle.flow.specs.Cases.{graph_in}
+use Rattle.std.proofs.Common.{sym, ap, arith}
 use Rattle.lists.specs.Lent.{table_in}
-use Rattle.lists.specs.Tables.{adding, at}
-use Rattle.lists.proofs.Loops.{loop_all, loop_more, loop_none, loop_other, loop_stop}
-use Rattle.lists.proofs.Walks.{stopped}
+use Rattle.lists.specs.Tables.{at}
+use Rattle.lists.proofs.Loops.{loop_all, loop_more, loop_other, loop_stop}
 use Rattle.engine.proofs.Stepped.{led_to, stepped_joined}
 use Rattle.engine.proofs.States.{counted}
 use Rattle.engine.proofs.operators.some_next.some_next.Goals as goal
 use Rattle.std.proofs.lemmas.List.FromFn.{length-range_with_len}
 
-pub loop-state-init : goal.loop-state-init
-loop-state-init g c = loop_none
-
 pub returns-in_err-state_successors : goal.returns-in_err-state_successors
 returns-in_err-state_successors g c =
     let model = g.K.Kind.model in
-    let graph = graph_in c.args.case.now in
-    let table = table_in c.args.lists.now c.args.rows.now in
+    let graph = c.args.case.now.graph in
     let loop = c.loop-state.invariant in
     let state = c.loop-state.state in
     let many = length-range_with_len 0 graph.states in
     let count = c.states-state-end.ensures in
     let read = counted graph.states state (omega arith) in
-    let gives = ap (λ rows. led_to model graph rows state) (sym (loop_other loop c.requires.apart)) in
-    let all = stepped_joined model graph (at table c.args.list) in
-    stopped c.from_residual.result _ c.from_residual.ensures.1
-    (loop_stop loop (omega arith) read gives c.requires.known.1 c.in_err-state_successors.ensures
-    ∙ ap (adding model table c.args.dest) (sym all))
+    let gives = ap (λ rows. led_to model graph rows state) (sym (loop_other loop c.requires)) in
+    rw (stepped_joined model graph (at (table_in c.args.lists.now) c.args.list.number))
+    (loop_stop loop (omega arith) read gives c.args.dest.known c.from_residual.result c.from_residual.ensures.1
+    c.in_err-state_successors.ensures)
 
 pub loop-state-preserved : goal.loop-state-preserved
 loop-state-preserved g c =
-    let graph = graph_in c.args.case.now in
+    let graph = c.args.case.now.graph in
     let loop = c.loop-state.invariant in
     let many = length-range_with_len 0 graph.states in
     let count = c.states-state-end.ensures in
     let state = c.loop-state.state in
     let read = counted graph.states state (omega arith) in
-    let gives = ap (λ rows. led_to g.K.Kind.model graph rows state) (sym (loop_other loop c.requires.apart)) in
-    loop_more loop (omega arith) read gives c.requires.known.1 c.in_ok-state_successors.ensures
+    let gives = ap (λ rows. led_to g.K.Kind.model graph rows state) (sym (loop_other loop c.requires)) in
+    loop_more loop (omega arith) read gives c.args.dest.known c.in_ok-state_successors.ensures
 
 pub returns : goal.returns
 returns g c =
-    let graph = graph_in c.args.case.now in
-    let table = table_in c.args.lists.now c.args.rows.now in
-    let all = stepped_joined g.K.Kind.model graph (at table c.args.list) in
+    let graph = c.args.case.now.graph in
     let many = length-range_with_len 0 graph.states in
     let count = c.states-state-end.ensures in
-    loop_all c.loop-state.invariant (omega arith) ∙ ap (adding g.K.Kind.model table c.args.dest) (sym all)
+    rw (stepped_joined g.K.Kind.model graph (at (table_in c.args.lists.now) c.args.list.number))
+    (loop_all c.loop-state.invariant (omega arith))

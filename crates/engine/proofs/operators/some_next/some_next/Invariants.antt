@@ -1,4 +1,3 @@
-use Rattle.flow.specs.Cases.{graph_in}
 use Rattle.lists.specs.Lent.{table_in}
 use Rattle.lists.specs.Tables.{at}
 use Rattle.lists.proofs.Loops.{Looped}
@@ -10,6 +9,6 @@ use Rattle.engine.proofs.operators.some_next.some_next.Given as goal
 abbrev pub invariant-loop-state : goal.invariant-loop-state
 invariant-loop-state g l =
     let model = g.K.Kind.model in
-    Looped model l.initial.lists l.initial.rows l.lists l.rows l.dest
-    (led_to model (graph_in l.case) (at (table_in l.initial.lists l.initial.rows) l.list))
-    (states model (graph_in l.case)) l.state
+    Looped model l.initial.lists l.lists l.dest.number
+    (led_to model l.case.graph (at (table_in l.initial.lists) l.list.number))
+    (states model l.case.graph) l.state

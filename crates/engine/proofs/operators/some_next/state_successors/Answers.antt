@@ -1,41 +1,33 @@
 use Rattle.std.proofs.Common.{ℕ, sym, ap, ◌∙◌, arith}
-use Rattle.flow.specs.Cases.{graph_in}
 use Rattle.lists.specs.Lent.{table_in}
-use Rattle.lists.specs.Tables.{adding, at}
-use Rattle.lists.proofs.Loops.{loop_all, loop_more, loop_none, loop_other, loop_skip, loop_stop}
-use Rattle.lists.proofs.Walks.{stopped}
+use Rattle.lists.specs.Tables.{at}
+use Rattle.lists.proofs.Loops.{loop_all, loop_more, loop_other, loop_skip, loop_stop}
 use Rattle.logic.specs.Operators.{moved}
 use Rattle.engine.proofs.Stepped.{along_all, along_here, along_not, edge_at, edge_read}
 use Rattle.engine.proofs.operators.some_next.state_successors.Goals as goal
 use Rattle.engine.proofs.operators.some_next.state_successors.Goals.{else-edge-state}
 use Rattle.engine.proofs.operators.some_next.state_successors.Goals.{then-edge-state+in_ok-add_moved}
 
-pub loop-edge-init : goal.loop-edge-init
-loop-edge-init g c = loop_none
-
 pub returns-in_err-add_moved : goal.returns-in_err-add_moved
 returns-in_err-add_moved g c =
     let model = g.K.Kind.model in
-    let table = table_in c.args.lists.now c.args.rows.now in
     let state = c.args.state in
-    let there = λ (t : ℕ). moved model state t (at table c.args.list) in
+    let there = λ (t : ℕ). moved model state t (at (table_in c.args.lists.now) c.args.list.number) in
     let es = c.edges-edge-items.result.now in
     let edge = edge_at es c.loop-edge.edge-index in
     let loop = c.loop-edge.invariant in
     let read = edge_read es c.loop-edge.edge-index c.loop-edge-test.true in
     let gives = along_here there state edge c.if-edge-state.true
-    ∙ ap (moved model state edge.to) (sym (loop_other loop c.requires.apart)) in
-    let all = along_all there state (graph_in c.args.case.now) c.edges-edge-items.ensures.drawn in
-    stopped c.from_residual.result _ c.from_residual.ensures.1
-    (loop_stop loop (omega arith) read gives c.requires.known.1 c.in_err-add_moved.ensures
-    ∙ ap (adding model table c.args.dest) all)
+    ∙ ap (moved model state edge.to) (sym (loop_other loop c.requires)) in
+    rw (sym (along_all there state c.args.case.now.graph c.edges-edge-items.ensures.drawn))
+    (loop_stop loop (omega arith) read gives c.args.dest.known c.from_residual.result c.from_residual.ensures.1
+    c.in_err-add_moved.ensures)
 
 pub loop-edge-preserved : goal.loop-edge-preserved
 loop-edge-preserved g c =
     let model = g.K.Kind.model in
-    let table = table_in c.args.lists.now c.args.rows.now in
     let state = c.args.state in
-    let there = λ (t : ℕ). moved model state t (at table c.args.list) in
+    let there = λ (t : ℕ). moved model state t (at (table_in c.args.lists.now) c.args.list.number) in
     let es = c.edges-edge-items.result.now in
     let edge = edge_at es c.loop-edge.edge-index in
     let loop = c.loop-edge.invariant in
@@ -43,19 +35,17 @@ loop-edge-preserved g c =
     elim c.if-edge-state.branch [
       | then-edge-state+in_ok-add_moved w ↦
           let gives = along_here there state edge w.if-edge-state.true
-          ∙ ap (moved model state edge.to) (sym (loop_other loop c.requires.apart)) in
-          rw (w.lists-is, w.rows-is)
-          (loop_more loop (omega arith) read gives c.requires.known.1 w.in_ok-add_moved.ensures)
+          ∙ ap (moved model state edge.to) (sym (loop_other loop c.requires)) in
+          rw w.lists-is (loop_more loop (omega arith) read gives c.args.dest.known w.in_ok-add_moved.ensures)
       | else-edge-state w ↦
           let none = along_not there state edge w.if-edge-state.false in
-          rw (w.lists-is, w.rows-is) (loop_skip loop (omega arith) read none)
+          rw w.lists-is (loop_skip loop (omega arith) read none)
     ]
 
 pub returns : goal.returns
 returns g c =
     let model = g.K.Kind.model in
-    let table = table_in c.args.lists.now c.args.rows.now in
     let state = c.args.state in
-    let there = λ (t : ℕ). moved model state t (at table c.args.list) in
-    let all = along_all there state (graph_in c.args.case.now) c.edges-edge-items.ensures.drawn in
-    loop_all c.loop-edge.invariant (omega arith) ∙ ap (adding model table c.args.dest) all
+    let there = λ (t : ℕ). moved model state t (at (table_in c.args.lists.now) c.args.list.number) in
+    rw (sym (along_all there state c.args.case.now.graph c.edges-edge-items.ensures.drawn))
+    (loop_all c.loop-edge.invariant (omega arith))

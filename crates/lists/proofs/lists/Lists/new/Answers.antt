@@ -1,11 +1,10 @@
-use Rattle.std.proofs.Common.{refl, arith}
-use Rattle.lists.specs.Counts.{list_count}
-use Rattle.lists.proofs.Cuts.{getD_zeros}
+use Rattle.std.proofs.Common.{refl}
+use Rattle.lists.proofs.Cuts.{zeros_within}
+use Rattle.lists.proofs.Lent.{table_none}
 use Rattle.lists.proofs.lists.Lists.new.Goals as goal
 
-pub invariant_of-result : goal.invariant_of-result
-invariant_of-result c = record {
-  small = c.requires;
-  many = refl;
-  within = λ i. omega (arith, getD_zeros list_count i);
-}
+pub invariant_of-result-clause-within : goal.invariant_of-result-clause-within
+invariant_of-result-clause-within g c = zeros_within 36 c.args.limit
+
+pub returns-clause-empty : goal.returns-clause-empty
+returns-clause-empty g c = table_none _ refl

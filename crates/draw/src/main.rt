@@ -2,7 +2,7 @@
 // Want of memory, or a read or write that fails, ends the program with status 1.
 #![tactic(auto)]
 
-use anyhow::anyhow;
+use anyhow::Context;
 use drawing::drawing::draw;
 use flow::room::Room;
 use pages::page::{LIMIT, Page};
@@ -23,10 +23,8 @@ fn run(rt: &HostRuntime) -> anyhow::Result<()> {
     let room = Room::new(rt.alloc())?;
     let mut page = Page::new(rt.alloc())?;
     draw(room, &mut page, input.as_slice());
-    match page.text() {
-        Some(bytes) => rt.stdout().write_all(bytes)?,
-        None => return Err(anyhow!("nothing to print")),
-    }
+    let text = page.text().context("nothing to print")?;
+    rt.stdout().write_all(text)?;
     Ok(())
 }
 

@@ -1,4 +1,3 @@
-pub mod Printing
 pub mod Steps
 pub mod Progress
 pub mod Ends

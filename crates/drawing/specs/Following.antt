@@ -5,6 +5,7 @@ use Rattle.drawing.specs.declared.fault.Fault.{Fault}
 use Rattle.drawing.specs.declared.fault.Fault.TheVariants as why
 use Rattle.drawing.specs.declared.step.Step.{Step}
 use Rattle.drawing.specs.declared.step.Step.TheVariants.{Checks, Closes, Goes}
+use Rattle.flow.specs.Cases.{Content}
 use Rattle.flow.specs.Drawn.{after, answer}
 use Rattle.flow.specs.Graph.{Graph}
 use Rattle.flow.specs.Line.{Line}
@@ -16,7 +17,7 @@ use Rattle.records.specs.declared.fault.Fault as text
 -- where a case stands: a draft with its graph, or a closed case with its graph and its sheet
 pub data Standing : Type 0 where
   drafting : Graph → Standing
-  closed_case : Graph → List Line → Standing
+  closed_case : Content → Standing
 
 -- what a call on a draft does, unless it is refused
 abbrev pub draft_step : Graph → DraftCall → Result Step Refusal
@@ -29,9 +30,9 @@ one_step (Ok l) = Ok Goes
 one_step (Err r) = Err r
 
 -- what a call on a closed case does, unless it is refused
-abbrev pub sheet_step : List Line → SheetCall → Result Step Refusal
-sheet_step ls (line c ns) = one_step (entry ls c ns)
-sheet_step ls (check a) = Ok Checks
+abbrev pub sheet_step : Content → SheetCall → Result Step Refusal
+sheet_step k (line c ns) = one_step (entry k.lines c ns)
+sheet_step k (check a) = Ok Checks
 
 -- a refusal of the case, as a fault of the record
 abbrev pub by_case : Result Step Refusal → Result Step Fault
@@ -45,17 +46,17 @@ by_text step (Err f) = Err (why.Text f)
 
 abbrev pub reply : Standing → List ℕ → Result Step Fault
 reply (drafting g) t = by_text (draft_step g) (draft_call t)
-reply (closed_case g ls) t = by_text (sheet_step ls) (sheet_call t)
+reply (closed_case k) t = by_text (sheet_step k) (sheet_call t)
 
 -- the graph after a call
 abbrev pub drawn_by : Graph → DraftCall → Graph
 drawn_by g (build b) = after g b
 drawn_by g close = g
 
--- the sheet after a call
-abbrev pub entered_by : List Line → SheetCall → List Line
-entered_by ls (line c ns) = entered ls (entry ls c ns)
-entered_by ls (check a) = ls
+-- the closed case after a call: a line goes on the sheet
+abbrev pub entered_by : Content → SheetCall → Content
+entered_by k (line c ns) = record { graph = k.graph; lines = entered k.lines (entry k.lines c ns) }
+entered_by k (check a) = k
 
 -- what is left by a record: all as it was, where it asks for no call
 abbrev pub left_by : {C S : Type 0} → (S → C → S) → S → Result C text.Fault → S
@@ -65,7 +66,7 @@ left_by change s (Err f) = s
 -- where the case stands after a record
 abbrev pub next : Standing → List ℕ → Standing
 next (drafting g) t = drafting (left_by drawn_by g (draft_call t))
-next (closed_case g ls) t = closed_case g (left_by entered_by ls (sheet_call t))
+next (closed_case k) t = closed_case (left_by entered_by k (sheet_call t))
 
 -- by what becomes of a record: one thing where it closes the draft, another where it does not
 abbrev pub if_closes : {A : Type 0} → Result Step Fault → A → A → A

@@ -1,14 +1,12 @@
 // The whole drawing of a text.
 ghost use Rattle.std.specs.Prelude.{◌≡◌, ◌≤◌, [], ◌∷◌, ◌++◌, length, Some};
 ghost use Rattle.drawing.specs.Output.{done_text, drawing as drawn_text, notice, output};
-ghost use Rattle.flow.specs.Cases.{graph_in, lines_in};
 ghost use Rattle.pages.specs.Limit.{limit};
-ghost use Rattle.pages.specs.Pages.{Prints, shown};
+ghost use Rattle.pages.specs.Pages.{Prints};
 ghost use Rattle.records.specs.Texts.{records};
 
 use crate::following::follow_records;
 use crate::showing::show_case;
-use crate::tally::Tally;
 use flow::case::Case;
 use flow::draft::Draft;
 use flow::room::Room;
@@ -16,15 +14,15 @@ use pages::page::{LIMIT, Page};
 use records::splitter::Splitter;
 
 // What was done: states, edges drawn, edges that closing added, labels, lines, records refused, checks asked for.
+#[tactic(auto, using(pages::proofs::Adding::printing))]
 fn show_done(case: &Case, drawn: usize, refused: u32, checks: u32, page: &mut Page)
-    requires { drawn ≤ length (graph_in case.now).edges }
-    ensures { let held = case.now in
-        let text = done_text (graph_in held) drawn (length (lines_in held)) refused checks in
-        Prints page.old text page.new }
+    requires { drawn ≤ length case.now.graph.edges }
+    ensures { let text = done_text case.now drawn refused checks in Prints page.old text page.new }
 {
     let edges = case.edges().len();
     let labels = case.labels().len() as u32;
     let lines = case.lines().len() as u32;
+    // Closing only adds edges, so there are no fewer than were drawn.
     let added = (edges - drawn) as u32;
     page.put(b'D');
     page.put_fields(&[
@@ -61,8 +59,9 @@ fn draw_text(room: Room, page: &mut Page, input: &[u8])
 }
 
 // Leaves the notice on the page, and nothing else.
+#[tactic(auto, using(crate::proofs::Bounds::add_empty))]
 fn give_notice(page: &mut Page)
-    ensures { shown page.new ≡ Some notice }
+    ensures { page.new ≡ Some notice }
 {
     page.clear();
     page.put_all(b"X,T,24,0,0\r\n");
@@ -70,8 +69,9 @@ fn give_notice(page: &mut Page)
 
 /// Leaves on the page what is printed of the text: the refusals, the closed case, and what was done; or one notice,
 /// where the text or what is printed of it is too long. Whatever stood on the page before is gone.
+#[tactic(auto, using(crate::proofs::Bounds::add_empty), unfolding(crate::specs::Output::output))]
 pub fn draw(room: Room, page: &mut Page, input: &[u8])
-    ensures { shown page.new ≡ Some (output input.now) }
+    ensures { page.new ≡ Some (output input.now) }
 {
     if input.len() > LIMIT {
         give_notice(page);

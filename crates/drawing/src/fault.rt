@@ -7,7 +7,7 @@ use flow::refusal::Refusal;
 use records::fault::Fault as TextFault;
 
 /// Which layer refuses.
-#[derive(Clone, Copy)]
+#[derive(Clone, Copy, PartialEq, Eq, Debug)]
 pub enum Layer {
     /// The text is no record, or not one for this phase.
     Text,
@@ -15,24 +15,26 @@ pub enum Layer {
     Case,
 }
 
-impl Layer {
-    /// The layer's letter.
-    pub fn letter(self) -> u8
-        ensures { result ≡ written self }
-    {
-        match self {
+/// The layer's letter.
+impl From<Layer> for u8 {
+    ghost from_gives = { λ layer result. result ≡ written layer };
+
+    fn from(layer: Layer) -> u8 {
+        match layer {
             Layer::Text => b'T',
             Layer::Case => b'C',
         }
     }
 }
 
-#[derive(Clone, Copy)]
+/// Why a record is refused.
+#[derive(Clone, Copy, PartialEq, Eq, Debug)]
 pub enum Fault {
     Text(TextFault),
     Case(Refusal),
 }
 
+// The two `From` are written out: derived ones have no contract.
 impl From<TextFault> for Fault {
     ghost from_gives = { λ fault r. r ≡ of_text fault };
 
@@ -65,12 +67,13 @@ impl Fault {
         ensures { result ≡ number_of self }
     {
         match self {
-            Fault::Text(fault) => fault.number() as u32,
+            Fault::Text(fault) => u32::from(fault.number()),
             Fault::Case(refusal) => refusal.number(),
         }
     }
 
     /// The field that is at fault, or 0.
+    // The 0 is told too: it stands in the field's place.
     pub fn field(self) -> u32
         ensures { result ≡ field_of self }
     {

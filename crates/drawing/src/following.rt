@@ -2,7 +2,6 @@
 ghost use Rattle.std.specs.Prelude.{◌+◌, ◌≤◌, length};
 ghost use Rattle.drawing.specs.Followed.{Followed};
 ghost use Rattle.pages.specs.Limit.{limit};
-ghost use Rattle.pages.specs.Pages.{shown};
 
 use crate::phase::Phase;
 use crate::step::Step;
@@ -20,23 +19,21 @@ pub(crate) fn follow_records<P: Phase>(
     requires { splitter.old.count + length splitter.old.left.now ≤ limit }
     ensures { let from = splitter.old in let to = splitter.new in
         Followed
-        (P.standing phase.old) from.count from.left.now (shown page.old)
-        (P.standing phase.new) to.count to.left.now (shown page.new) result }
+        (P.standing phase.old) from.count from.left.now page.old
+        (P.standing phase.new) to.count to.left.now page.new result }
 {
-    let mut refused = 0;
-    let mut checks = 0;
+    let mut tally = Tally::default();
+    // No `for`: after a loop over `splitter.by_ref()` nothing is known of the records that are left.
     while let Some(record) = splitter.next() {
         match phase.follow(&record) {
-            Ok(step) => match step {
-                Step::Goes => {}
-                Step::Checks => checks += 1,
-                Step::Closes => return Tally { refused, checks },
-            },
+            Ok(Step::Goes) => {}
+            Ok(Step::Checks) => tally.checks += 1,
+            Ok(Step::Closes) => return tally,
             Err(fault) => {
                 tell(page, record.number() as u32, fault);
-                refused += 1;
+                tally.refused += 1;
             }
         }
     }
-    Tally { refused, checks }
+    tally
 }

@@ -1,6 +1,6 @@
 // What becomes of a record that is not refused.
 
-#[derive(Clone, Copy)]
+#[derive(Clone, Copy, PartialEq, Eq, Debug)]
 pub(crate) enum Step {
     // It draws or enters something.
     Goes,

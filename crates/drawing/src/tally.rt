@@ -1,6 +1,6 @@
 // What is counted over the records of a phase.
 
-#[derive(Clone, Copy)]
+#[derive(Clone, Copy, PartialEq, Eq, Debug, Default)]
 pub(crate) struct Tally {
     pub refused: u32,
     pub checks: u32,

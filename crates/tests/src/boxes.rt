@@ -16,13 +16,8 @@ fn prints<K: PrintingKind>(
 ) -> Result<(), Fail> {
     let mut page = Page::new(rt.alloc())?;
     K::print(b, &mut page);
-    match page.text() {
-        Some(bytes) => {
-            assert!(rt; bytes == text);
-            Ok(())
-        },
-        None => Err(Fail::new("too long")),
-    }
+    assert!(rt; page.text().ok_or("too long")? == text);
+    Ok(())
 }
 
 // Whether the box is there and prints so.
@@ -31,26 +26,17 @@ fn gives<K: PrintingKind>(
     b: Option<K::Box>,
     text: &[u8],
 ) -> Result<(), Fail> {
-    match b {
-        Some(b) => prints::<K>(rt, &b, text),
-        None => Err(Fail::new("no box")),
-    }
+    prints::<K>(rt, &b.ok_or("no box")?, text)
 }
 
 // The box of one number.
 pub(crate) fn one<K: Kind>(n: u32) -> Result<K::Box, Fail> {
-    match K::one(n) {
-        Some(b) => Ok(b),
-        None => Err(Fail::new("not nameable")),
-    }
+    Ok(K::one(n).ok_or("not nameable")?)
 }
 
 // All values but one number.
 pub(crate) fn but<K: Kind>(n: u32) -> Result<K::Box, Fail> {
-    match K::piece(&one::<K>(n)?, 0) {
-        Some(b) => Ok(b),
-        None => Err(Fail::new("no piece")),
-    }
+    Ok(K::piece(&one::<K>(n)?, 0).ok_or("no piece")?)
 }
 
 #[test]
@@ -87,7 +73,7 @@ fn excluded_fragments_add_up(rt: HostRuntime) -> Result<(), Fail> {
 fn fragments_are_nameable_below_64(rt: HostRuntime) -> Result<(), Fail> {
     assert!(rt; Fragments::takes(0) && Fragments::takes(63) && !Fragments::takes(64));
     assert!(rt; Fragments::one(63).is_some() && Fragments::one(64).is_none());
-    assert_eq!(rt; Fragments::limit(), 64);
+    assert_eq!(rt; Fragments::PIECES, 64);
     Ok(())
 }
 
@@ -127,6 +113,6 @@ fn amounts_have_pieces_below_and_above(rt: HostRuntime) -> Result<(), Fail> {
     )?;
     assert!(rt; Amounts::piece(&Amounts::all(), 0).is_none());
     assert!(rt; Amounts::takes(4294967295));
-    assert_eq!(rt; Amounts::limit(), 2);
+    assert_eq!(rt; Amounts::PIECES, 2);
     Ok(())
 }

@@ -4,6 +4,8 @@
 #[cfg(test)]
 mod boxes;
 #[cfg(test)]
+mod holding;
+#[cfg(test)]
 mod limits;
 #[cfg(test)]
 mod refusals;

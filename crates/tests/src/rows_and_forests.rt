@@ -17,13 +17,8 @@ fn gives<K: Kind>(
     row: Option<Row<K::Box>>,
     other: &Row<K::Box>,
 ) -> Result<(), Fail> {
-    match row {
-        Some(row) => {
-            assert!(rt; row.equals::<K>(other));
-            Ok(())
-        },
-        None => Err(Fail::new("no row")),
-    }
+    assert!(rt; row.ok_or("no row")?.equals::<K>(other));
+    Ok(())
 }
 
 #[test]
@@ -105,37 +100,32 @@ fn witnesses_are_equal_by_their_parts(rt: HostRuntime) -> Result<(), Fail> {
     Ok(())
 }
 
-// Whether no row is left.
-fn ends<K: Kind>(rt: &impl Abort, denial: &mut Denial<K::Box>) -> Result<(), Fail> {
-    assert!(rt; denial.next::<K>().is_none());
-    assert!(rt; denial.next::<K>().is_none());
-    Ok(())
-}
-
 #[test]
 fn fragments_deny(rt: HostRuntime) -> Result<(), Fail> {
     let blank = Row::blank::<Fragments>(1);
     let row = blank
         .with_box::<Fragments>(0, one::<Fragments>(5)?)
         .with_box::<Fragments>(2, but::<Fragments>(7)?);
-    let mut denial = Denial::of::<Fragments>(&row, 3);
-    gives::<Fragments>(&rt, denial.next::<Fragments>(), &Row::blank::<Fragments>(0))?;
-    gives::<Fragments>(&rt, denial.next::<Fragments>(), &Row::blank::<Fragments>(2))?;
+    let mut denial = Denial::<Fragments>::of(&row, 3);
+    gives::<Fragments>(&rt, denial.next(), &Row::blank::<Fragments>(0))?;
+    gives::<Fragments>(&rt, denial.next(), &Row::blank::<Fragments>(2))?;
     let other = blank.with_box::<Fragments>(0, but::<Fragments>(5)?);
-    gives::<Fragments>(&rt, denial.next::<Fragments>(), &other)?;
+    gives::<Fragments>(&rt, denial.next(), &other)?;
     let seven = blank.with_box::<Fragments>(2, one::<Fragments>(7)?);
-    gives::<Fragments>(&rt, denial.next::<Fragments>(), &seven)?;
-    ends::<Fragments>(&rt, &mut denial)
+    gives::<Fragments>(&rt, denial.next(), &seven)?;
+    assert!(rt; denial.next().is_none());
+    assert!(rt; denial.next().is_none());
+    Ok(())
 }
 
 #[test]
 fn amounts_deny(rt: HostRuntime) -> Result<(), Fail> {
     let blank = Row::blank::<Amounts>(0);
     let row = blank.with_box::<Amounts>(3, Span { low: 5, high: 9 });
-    let mut denial = Denial::of::<Amounts>(&row, 2);
-    gives::<Amounts>(&rt, denial.next::<Amounts>(), &Row::blank::<Amounts>(1))?;
+    let mut denial = Denial::<Amounts>::of(&row, 2);
+    gives::<Amounts>(&rt, denial.next(), &Row::blank::<Amounts>(1))?;
     let lower = blank.with_box::<Amounts>(3, Span { low: 0, high: 4 });
-    gives::<Amounts>(&rt, denial.next::<Amounts>(), &lower)?;
+    gives::<Amounts>(&rt, denial.next(), &lower)?;
     let higher = blank.with_box::<Amounts>(
         3,
         Span {
@@ -143,6 +133,8 @@ fn amounts_deny(rt: HostRuntime) -> Result<(), Fail> {
             high: 4294967295,
         },
     );
-    gives::<Amounts>(&rt, denial.next::<Amounts>(), &higher)?;
-    ends::<Amounts>(&rt, &mut denial)
+    gives::<Amounts>(&rt, denial.next(), &higher)?;
+    assert!(rt; denial.next().is_none());
+    assert!(rt; denial.next().is_none());
+    Ok(())
 }

@@ -9,13 +9,8 @@ use std::test::*;
 fn draws(rt: &(impl Abort + AllocGlobal), input: &[u8], output: &[u8]) -> Result<(), Fail> {
     let mut page = Page::new(rt.alloc())?;
     draw(Room::new(rt.alloc())?, &mut page, input);
-    match page.text() {
-        Some(bytes) => {
-            assert!(rt; bytes == output);
-            Ok(())
-        },
-        None => Err(Fail::new("too long")),
-    }
+    assert!(rt; page.text().ok_or("too long")? == output);
+    Ok(())
 }
 
 #[test]

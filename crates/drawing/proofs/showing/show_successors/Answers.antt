@@ -1,41 +1,18 @@
-use Rattle.std.proofs.Common.{◌+◌, false, drop, sym, ap, ◌∙◌}
+use Rattle.std.proofs.Common.{rules, tests, ◌==◌}
 use Rattle.drawing.proofs.showing.show_successors.Goals as goal
-use Rattle.drawing.proofs.showing.show_successors.Goals.{else-edge-state, then-edge-state}
-use Rattle.flow.proofs.Successors.{ends_here, ends_past}
-use Rattle.flow.specs.Graph.{ends}
-use Rattle.pages.proofs.Adding.{add_done, add_step}
-use Rattle.pages.specs.Pages.{add, shown}
-use Rattle.pages.specs.Spaced.{separated}
-use Rattle.std.proofs.lemmas.List.{drop_all}
-
-pub loop-edge-preserved : goal.loop-edge-preserved
-loop-edge-preserved c =
-    let es = c.args.edges.now in
-    let s = c.args.state in
-    let i = c.loop-edge.edge-index in
-    let was = shown c.loop-edge.page in
-    let first = c.loop-edge.first in
-    let rest = ends (drop (i + 1) es) s in
-    elim c.if-edge-state.branch [
-      | then-edge-state w ↦
-          ap (λ p. add (shown p) (separated c.if-edge-state.first rest)) w.page-is
-          ∙ ap (λ t. add (shown w.put_spaced.new.self) (separated t rest)) w.first-is
-          ∙ add_step was (shown w.put_spaced.new.self) _ (separated false rest)
-          (separated first (ends (drop i es) s)) w.put_spaced.ensures
-          (ap (separated first) (ends_here es i s _ c.loop-edge-test.true w.if-edge-state.true))
-          ∙ c.loop-edge.invariant
-      | else-edge-state w ↦
-          ap (λ p. add (shown p) (separated c.if-edge-state.first rest)) w.page-is
-          ∙ ap (λ t. add was (separated t rest)) w.first-is
-          ∙ ap (λ l. add was (separated first l))
-          (sym (ends_past es i s _ c.loop-edge-test.true w.if-edge-state.false))
-          ∙ c.loop-edge.invariant
-    ]
+use Rattle.flow.proofs.Successors.{ends_filter}
+use Rattle.pages.proofs.Runs.{spaced_over}
+use Rattle.std.proofs.lemmas.Iterator.{YieldsList-from_map, YieldsList-from_slice}
+use Rattle.std.proofs.lemmas.Iterator.Consumers.{YieldsList-at, YieldsList-from_filter}
 
 pub returns : goal.returns
 returns c =
-    let s = c.args.state in
-    add_done c.loop-edge.page _
-    (ap (λ l. separated c.loop-edge.first (ends l s))
-    (drop_all c.loop-edge.edge-index c.args.edges.now c.loop-edge-test.false))
-    ∙ c.loop-edge.invariant
+    let edges = c.args.edges.now in
+    rw (ends_filter edges c.args.state)
+    (spaced_over _ _ c.put_list.ensures
+    (YieldsList-from_map _ (λ e. e.to)
+    (YieldsList-at c.map-successors.ensures.source
+    (YieldsList-from_filter _ (λ e. e.from == c.args.state)
+    (YieldsList-at c.filter.ensures.source (YieldsList-from_slice edges cc))
+    c.filter.ensures.closure (λ x b q k. search (rules, tests))))
+    c.map-successors.ensures.closure (λ x r q k. search rules)))

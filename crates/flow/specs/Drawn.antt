@@ -5,7 +5,8 @@ use Rattle.flow.specs.Graph.{Graph, Label, nothing_drawn}
 use Rattle.flow.specs.Limits.{most_arguments, most_edges, most_labels, most_states, predicates}
 use Rattle.flow.specs.Refusals.{leaving, reply}
 use Rattle.std.specs.List.{list_any}
-use Rattle.flow.specs.Tests.{earliest, same_numbers}
+use Rattle.std.specs.Cmp.Lexicographic.{pointwise}
+use Rattle.flow.specs.Tests.{earliest}
 use Rattle.flow.specs.declared.edge.Edge.{Edge}
 use Rattle.flow.specs.declared.refusal.Refusal.{Refusal}
 use Rattle.flow.specs.declared.refusal.Refusal.TheVariants.{AlreadyThere, BadLabel, TableFull, TooManyStates, UnknownState}
@@ -16,7 +17,7 @@ is_edge a b e = e.from == a && e.to == b
 
 -- the label is this predicate with these values, on s
 abbrev pub is_label : ℕ → ℕ → List ℕ → Label → Bool
-is_label s p ns l = l.state == s && (l.predicate == p && same_numbers l.values ns)
+is_label s p ns l = l.state == s && (l.predicate == p && pointwise ◌==◌ l.values ns)
 
 -- the number is no state of the graph
 abbrev pub unknown : Graph → ℕ → Bool

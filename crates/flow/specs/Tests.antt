@@ -1,12 +1,5 @@
--- Tests over a list, and the earliest of several refusals.
-use Rattle.std.specs.Prelude.{ℕ, Bool, true, false, cond, ◌&&◌, List, [], ◌∷◌, Some, None, Option, ◌==◌}
-
--- the same numbers in the same order
-abbrev pub same_numbers : List ℕ → List ℕ → Bool
-same_numbers [] [] = true
-same_numbers [] (n ∷ ns) = false
-same_numbers (m ∷ ms) [] = false
-same_numbers (m ∷ ms) (n ∷ ns) = m == n && same_numbers ms ns
+-- The earliest of several refusals.
+use Rattle.std.specs.Prelude.{Bool, cond, List, [], ◌∷◌, Some, None, Option}
 
 -- what the earliest test that applies gives
 abbrev pub earliest : {R : Type 0} → List (Bool × R) → Option R

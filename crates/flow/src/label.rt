@@ -1,11 +1,13 @@
 // A label of a flow graph: a predicate with its values, on a state.
 ghost use Rattle.std.specs.Prelude.{◌≡◌};
+ghost use Rattle.std.specs.Cmp.{and_per, nat_eq_equiv, on_per, partial_equiv_from_equiv};
+ghost use Rattle.std.specs.Cmp.Lexicographic.{nat_list_eq_equiv};
 ghost use Rattle.flow.specs.Drawn.{is_label};
 ghost use Rattle.flow.specs.Held.{label_of};
+ghost use Rattle.stores.specs.Listed.{listed};
 
 use crate::arguments::Arguments;
 
-// No derived comparison: it would compare the places beyond the count of the values too.
 #[derive(Clone, Copy)]
 pub struct Label {
     pub state: u32,
@@ -13,11 +15,18 @@ pub struct Label {
     pub values: Arguments,
 }
 
-impl Label {
-    // Whether the label is this predicate with these values, on this state.
-    pub(crate) fn says(&self, state: u32, predicate: u32, values: &[u32]) -> bool
-        ensures { result ≡ is_label state predicate values.now (label_of self.now) }
-    {
-        self.state == state && self.predicate == predicate && self.values.as_slice() == values
+// By hand: a derived comparison would compare the places beyond the count of the values too.
+impl PartialEq for Label {
+    ghost eq = { λ label other. is_label other.state other.predicate (listed other.values) (label_of label) };
+
+    ghost laws = { let numbers = partial_equiv_from_equiv nat_eq_equiv in
+        let lists = partial_equiv_from_equiv nat_list_eq_equiv in
+        and_per (on_per (λ l. l.state) numbers)
+        (and_per (on_per (λ l. l.predicate) numbers) (on_per (λ l. listed l.values) lists)) };
+
+    fn eq(&self, other: &Label) -> bool {
+        self.state == other.state
+            && self.predicate == other.predicate
+            && self.values.as_slice() == other.values.as_slice()
     }
 }

@@ -10,23 +10,23 @@ use crate::refusal::Refusal;
 #[derive(Clone, Copy, PartialEq, Eq, Debug)]
 pub enum Operator {
     /// A predicate holds of some variables: `P`.
-    Predicate,
+    Predicate = b'P' as isize,
     /// Both lines hold: `&`.
-    And,
+    And = b'&' as isize,
     /// Either line holds: `|`.
-    Or,
+    Or = b'|' as isize,
     /// The line does not hold: `!`.
-    Not,
+    Not = b'!' as isize,
     /// The line holds with some value for a variable: `Q`.
-    Exists,
+    Exists = b'Q' as isize,
     /// The line holds at every successor: `X`.
-    AllNext,
+    AllNext = b'X' as isize,
     /// The line holds at some successor: `N`.
-    SomeNext,
+    SomeNext = b'N' as isize,
     /// On every path the first line holds until the second does: `A`.
-    AllUntil,
+    AllUntil = b'A' as isize,
     /// On some path the first line holds until the second does: `U`.
-    SomeUntil,
+    SomeUntil = b'U' as isize,
 }
 
 /// How a line of an operator is written: from `fewest` to `most` numbers follow it.
@@ -89,16 +89,6 @@ impl From<Operator> for u8 {
     ghost from_gives = { λ operator result. result ≡ written operator };
 
     fn from(operator: Operator) -> u8 {
-        match operator {
-            Operator::Predicate => b'P',
-            Operator::And => b'&',
-            Operator::Or => b'|',
-            Operator::Not => b'!',
-            Operator::Exists => b'Q',
-            Operator::AllNext => b'X',
-            Operator::SomeNext => b'N',
-            Operator::AllUntil => b'A',
-            Operator::SomeUntil => b'U',
-        }
+        operator as u8
     }
 }

@@ -13,7 +13,7 @@ pub mod span;
 pub struct Amounts;
 
 // The highest amount.
-const HIGHEST: u32 = 4_294_967_295;
+const HIGHEST: u32 = u32::MAX;
 
 impl Span {
     // The amounts from `low` to `high`.
@@ -63,6 +63,7 @@ impl Kind for Amounts {
         below.into_iter().chain(above).nth(i)
     }
 
+    // Spans that differ allow different values, so `==` is what the trait asks; boxes of another kind may not be so.
     fn same(a: &Span, b: &Span) -> bool {
         a == b
     }

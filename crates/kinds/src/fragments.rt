@@ -113,6 +113,7 @@ impl Kind for Fragments {
         }
     }
 
+    // As for spans: fragments that differ allow different values.
     fn same(a: &Fragment, b: &Fragment) -> bool {
         a == b
     }

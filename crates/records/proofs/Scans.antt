@@ -1,8 +1,8 @@
 -- What one byte more tells of the record that is being read.
-use Rattle.std.proofs.Common.{◌≡◌, ℕ, ◌+◌, ◌<◌, Bool, true, false, ◌&&◌, ◌||◌, eqb, List, [], ◌∷◌, length, get_or, take, drop, sym, refl, ap, ◌∙◌, subst, append-nil, arith}
+use Rattle.std.proofs.Common.{◌≡◌, ℕ, ◌+◌, ◌-◌, ◌<◌, Bool, true, false, ◌&&◌, ◌||◌, eqb, List, [], ◌∷◌, ◌++◌, length, get_or, take, drop, sym, refl, ap, ◌∙◌, subst, append_assoc, append-nil, arith}
 use Rattle.std.proofs.lemmas.Bool.{and_left, and_right, ne_eqb}
 use Rattle.std.proofs.lemmas.Grind.{common_steps}
-use Rattle.std.proofs.lemmas.List.{at_drop_more, at_drop_all, take_more, get_or-drop, get_or_past}
+use Rattle.std.proofs.lemmas.List.{at_drop_more, at_drop_all, take_more, drop-drop, get_or-drop, get_or_past, length-drop, take-append-drop, take_all}
 use Rattle.records.specs.declared.scan.Scan.TheVariants.{Text, AfterCr, Ended}
 use Rattle.records.specs.Scanned.{CutAt, Cuts, Held, Scanned, Steps, Within}
 use Rattle.records.specs.Texts.{ahead, broken, records, stray}
@@ -71,24 +71,40 @@ module _ (left : List ℕ) where
         judged = w.within.judged;
       }
 
+  -- two stretches of a text, and what stands behind them
+  apart : (m n : ℕ) → left ≡ take m left ++ take n (drop m left) ++ drop (m + n) left
+  apart m n =
+      sym (take-append-drop m left) ∙ ap (λ xs. take m left ++ xs) (sym (take-append-drop n (drop m left)))
+      ∙ sym (append_assoc (take m left) (take n (drop m left)) (drop n (drop m left)))
+      ∙ ap (λ xs. take m left ++ take n (drop m left) ++ xs) (drop-drop n m left)
+
+  -- behind a CRLF the rest begins
+  pub cuts_crlf : {s : Bool} (last : ℕ) → last < length left → Scanned left (last + 1) (Ended s)
+      → Cuts left (take (last - 1) left) (drop (last + 1) left) s
+  cuts_crlf {s} last h (at, was, cut) =
+      let size : last - 1 ≡ at = omega arith in
+      rw (size, was) record {
+        first = cut.first;
+        judged = cut.judged;
+        parts = (take 2 (drop at left), apart at 2);
+        shorter = omega (arith, length-drop (at + 2) left);
+      }
+
   -- where no byte is left, all of the text is the record
-  pub cuts_all : {s : Bool} → 0 < length left → Within left (length left) s → Cuts left (length left) (length left) s
+  pub cuts_all : {s : Bool} → 0 < length left → Within left (length left) s → Cuts left left [] s
   unfolding records
   cuts_all h w =
       let none : records (drop (length left) left) ≡ [] = at_drop_all records left (length left) (omega arith) in
+      let all : take (length left) left ≡ left = take_all (length left) left (omega arith) in
       record {
-        first =
-            w.goes_on ∙ ap (ahead (take (length left) left)) none
-            ∙ ap (λ r. take (length left) left ∷ r) (sym none);
-        judged = w.judged;
-        some = h;
-        before = omega arith;
-        within = omega arith;
+        first = w.goes_on ∙ ap (ahead (take (length left) left)) none ∙ ap (λ r. r ∷ []) all;
+        judged = w.judged ∙ ap broken all;
+        parts = ([], sym (append-nil (left ++ []) ∙ append-nil left));
+        shorter = h;
       }
 
   -- and a CR that ends it is bare
-  pub cuts_cr : {s : Bool} → 0 < length left → Scanned left (length left) (AfterCr s)
-      → Cuts left (length left) (length left) true
+  pub cuts_cr : {s : Bool} → 0 < length left → Scanned left (length left) (AfterCr s) → Cuts left left [] true
   cuts_cr h (at, was, so) =
       let none : get_or left (at + 1) 0 ≡ 0 = get_or_past left (at + 1) 0 (omega arith) in
       let all = within_cr at _ (omega arith) (λ lf. omega arith) so in

@@ -1,5 +1,5 @@
 -- What the state of a scan tells of the bytes that were read.
-use Rattle.std.specs.Prelude.{◌≡◌, ℕ, ◌+◌, ◌<◌, ◌≤◌, Bool, List, ◌∷◌, length, take, drop, slice_index, slice_index_or}
+use Rattle.std.specs.Prelude.{◌≡◌, ℕ, ◌+◌, ◌<◌, Bool, List, ◌∷◌, ◌++◌, length, take, drop, slice_index, slice_index_or}
 use Rattle.records.specs.declared.scan.Scan.{Scan}
 use Rattle.records.specs.declared.scan.Scan.TheVariants.{Text, AfterCr, Ended}
 use Rattle.records.specs.Texts.{ahead, broken, records}
@@ -37,10 +37,10 @@ Steps scan byte next =
     (left : List ℕ) (read : ℕ) → read < length left → slice_index left read ≡ byte → Going scan
     → Scanned left read scan → Scanned left (read + 1) next
 
--- the first `size` bytes are the first record, and `end` is the place where the next one begins
-pub record Cuts (left : List ℕ) (size end : ℕ) (strays : Bool) : Type 0 where
-  pub first : records left ≡ take size left ∷ records (drop end left)
-  pub judged : strays ≡ broken (take size left)
-  pub some : 0 < end
-  pub before : size ≤ end
-  pub within : end ≤ length left
+-- `text` is the first record, and `rest` is what stands behind its end
+pub record Cuts (left text rest : List ℕ) (strays : Bool) : Type 0 where
+  pub first : records left ≡ text ∷ records rest
+  pub judged : strays ≡ broken text
+  -- both are parts of what was left, in this order
+  pub parts : (end : List ℕ) × (left ≡ text ++ end ++ rest)
+  pub shorter : length rest < length left

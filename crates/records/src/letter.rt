@@ -19,8 +19,9 @@ pub enum Letter {
 // No record that is a call has more fields.
 pub const MOST_FIELDS: usize = 7;
 
-// How many fields the record of a letter has, and whether the second one is an operator: a flag, since the counts do
-// not tell it.
+// How many fields the record of a letter has, and whether the second one is an operator. The form asks for that byte,
+// and the numbers begin behind it; the counts do not tell it, since those of `L` and `F` are the same.
+// Not the shape of a line in flow, which counts the numbers of an operator: the two share a call of `contains`.
 #[derive(Clone, Copy, PartialEq, Eq, Debug)]
 pub struct Shape {
     pub least: usize,

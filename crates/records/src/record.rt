@@ -60,7 +60,8 @@ impl<'a> Record<'a> {
         self.text.split(|byte| *byte == b',').count()
     }
 
-    // The bytes of a field. A field that is not there has none.
+    // The bytes of a field. One that is not there reads as empty: either is no letter, no operator and no number, and
+    // so no caller has to tell them apart.
     pub(crate) fn bytes(&self, number: u32) -> &'a [u8]
         ensures { result.now ≡ unwrap_or (field_at self.now.text.now number) [] }
     {

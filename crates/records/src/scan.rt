@@ -12,12 +12,12 @@ pub enum Scan {
     Ended { strays: bool },
 }
 
-// The first record of a text: its length, the place behind its CRLF, and whether it has a stray byte, for the record
-// to hold.
+// A text, cut behind its first record: the record, what is left behind its CRLF, and whether the record has a stray
+// byte, for it to hold.
 #[derive(Clone, Copy, PartialEq, Eq, Debug)]
-pub struct Cut {
-    pub size: usize,
-    pub end: usize,
+pub struct Cut<'a> {
+    pub text: &'a [u8],
+    pub rest: &'a [u8],
     pub strays: bool,
 }
 
@@ -38,9 +38,9 @@ fn step(scan: Scan, byte: u8) -> Scan
 }
 
 // The first record of a text that is not empty. It may lack its CRLF, and then a CR at its end is bare.
-pub fn first_cut(left: &[u8]) -> Cut
+pub fn first_cut(left: &[u8]) -> Cut<'_>
     requires { 0 < length left.now }
-    ensures { Cuts left.now result.size result.end result.strays }
+    ensures { Cuts left.now result.text.now result.rest.now result.strays }
 {
     let mut scan = Scan::Text { strays: false };
     // With its place, which is what is looked for.
@@ -48,8 +48,8 @@ pub fn first_cut(left: &[u8]) -> Cut
         scan = step(scan, *byte);
         if let Scan::Ended { strays } = scan {
             return Cut {
-                size: at - 1,
-                end: at + 1,
+                text: &left[..at - 1],
+                rest: &left[at + 1..],
                 strays,
             };
         }
@@ -59,8 +59,8 @@ pub fn first_cut(left: &[u8]) -> Cut
         Scan::Text { strays } | Scan::Ended { strays } => strays,
     };
     Cut {
-        size: left.len(),
-        end: left.len(),
+        text: left,
+        rest: &[],
         strays,
     }
 }

@@ -42,9 +42,8 @@ impl<'a> Iterator for Splitter<'a> {
         if self.left.is_empty() {
             return None;
         }
-        let Cut { size, end, strays } = first_cut(self.left);
-        let text = &self.left[..size];
-        self.left = &self.left[end..];
+        let Cut { text, rest, strays } = first_cut(self.left);
+        self.left = rest;
         self.count += 1;
         let number = self.count;
         Some(Record {

@@ -50,6 +50,7 @@ impl<T, const N: usize> Store<T, N> {
     }
 
     /// How many things there are.
+    // `few` is said by each reader: who calls sees the list alone, and not what always holds of it.
     pub fn len(&self) -> usize
         ensures count { result ≡ length self.now }
         ensures few { result ≤ N }

@@ -1,19 +1,13 @@
 // The hunt for an edge or a label that is there already.
 ghost use Rattle.std.specs.Prelude.{◌≡◌, map};
 ghost use Rattle.flow.specs.Closed.{leaves};
-ghost use Rattle.flow.specs.Drawn.{is_edge, is_label};
+ghost use Rattle.flow.specs.Drawn.{is_label};
 ghost use Rattle.flow.specs.Held.{label_of};
 ghost use Rattle.std.specs.List.{list_any};
+ghost use Rattle.stores.specs.Listed.{listed};
 
 use crate::edge::Edge;
 use crate::label::Label;
-
-// Whether an edge joins the two states.
-pub(super) fn joined(edges: &[Edge], from: u32, to: u32) -> bool
-    ensures { result ≡ list_any (is_edge from to) edges.now }
-{
-    edges.iter().any(|edge| edge.joins(from, to))
-}
 
 // Whether an edge leaves from the state.
 pub(super) fn left_from(edges: &[Edge], state: u32) -> bool
@@ -22,11 +16,10 @@ pub(super) fn left_from(edges: &[Edge], state: u32) -> bool
     edges.iter().any(|edge| edge.from == state)
 }
 
-// Whether the state has this very label.
-pub(super) fn labelled(labels: &[Label], state: u32, predicate: u32, values: &[u32]) -> bool
-    ensures { result ≡ list_any (is_label state predicate values.now) (map label_of labels.now) }
+// Whether the label is there. Its contract speaks of the labels that are drawn, and not of how they are held.
+pub(super) fn labelled(labels: &[Label], label: &Label) -> bool
+    ensures { let it = label.now in
+        result ≡ list_any (is_label it.state it.predicate (listed it.values)) (map label_of labels.now) }
 {
-    labels
-        .iter()
-        .any(|label| label.says(state, predicate, values))
+    labels.contains(label)
 }

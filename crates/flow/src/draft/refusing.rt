@@ -7,7 +7,7 @@ ghost use Rattle.flow.specs.Held.{asked_of, label_of};
 
 use crate::arguments::Arguments;
 use crate::draft::Draft;
-use crate::draft::hunting::{joined, labelled};
+use crate::draft::hunting::labelled;
 use crate::edge::Edge;
 use crate::label::Label;
 use crate::limits::{MOST_EDGES, MOST_STATES, PREDICATES};
@@ -33,14 +33,15 @@ impl Draft {
         if from >= self.states || to >= self.states {
             return Err(Refusal::UnknownState);
         }
-        if joined(self.edges.as_slice(), from, to) {
+        let edge = Edge { from, to };
+        if self.edges.as_slice().contains(&edge) {
             return Err(Refusal::AlreadyThere);
         }
         // The other places are for the edges that closing adds.
         if self.edges.len() >= MOST_EDGES {
             return Err(Refusal::TableFull);
         }
-        Ok(Edge { from, to })
+        Ok(edge)
     }
 
     // The label of the predicate with its values on the state.
@@ -61,17 +62,17 @@ impl Draft {
         if predicate >= PREDICATES {
             return Err(Refusal::BadLabel);
         }
-        let held = Arguments::try_from(values)?;
-        if labelled(self.labels.as_slice(), state, predicate, values) {
+        let label = Label {
+            state,
+            predicate,
+            values: Arguments::try_from(values)?,
+        };
+        if labelled(self.labels.as_slice(), &label) {
             return Err(Refusal::AlreadyThere);
         }
         if self.labels.is_full() {
             return Err(Refusal::TableFull);
         }
-        Ok(Label {
-            state,
-            predicate,
-            values: held,
-        })
+        Ok(label)
     }
 }

@@ -1,5 +1,5 @@
 -- Marks on lines: in a table of truth values, and as the definitions set them.
-use Rattle.std.proofs.Common.{◌≡◌, ℕ, zero, suc, ◌<◌, Bool, true, false, ◌&&◌, ◌||◌, eqb, ltb, ◌⊎◌, List, [], ◌∷◌, map, length, get_or, set, replicate, sym, refl, ap, ◌∙◌, inl, inr, arith, length-set}
+use Rattle.std.proofs.Common.{◌≡◌, ℕ, zero, suc, ◌<◌, Bool, true, false, ◌&&◌, ◌||◌, eqb, ltb, ◌⊎◌, List, [], ◌∷◌, ◌++◌, map, length, take, drop, get_or, set, replicate, sym, refl, ap, ◌∙◌, inl, inr, add-one, arith, length-set}
 use mathlib.Core.Path.{fun_ext}
 use Rattle.flow.specs.Facts.{Ordered}
 use Rattle.flow.specs.Limits.{most_lines}
@@ -11,7 +11,7 @@ use Rattle.kinds.specs.Member.{◌∈◌, here, there}
 use Rattle.logic.proofs.Reaching.{earlier_named}
 use Rattle.logic.specs.Reached.{line_at, marked_below, marking, operands}
 use Rattle.engine.specs.Marks.{marked}
-use Rattle.std.proofs.lemmas.List.{get_or-map, get_or-set_other, get_or-set_same}
+use Rattle.std.proofs.lemmas.List.{length-append, get_or-map, get_or-set_other, get_or-set_same}
 use Rattle.std.proofs.lemmas.Bool.{and_parts, cases_eq, eq-eqb, lt-ltb, ltb-true, ne_eqb}
 
 or_last : (a : Bool) → (a || (true || false)) ≡ true
@@ -38,9 +38,6 @@ mark_one_at ms a i l = elim (cases_eq i a) [
       get_or-set_other ms a i true false d ∙ sym (or_none (marked ms i))
       ∙ ap (λ b. marked ms i || (b || false)) (sym (ne_eqb i a d))
 ]
-
-pub mark_one : (ms : List Bool) (a : ℕ) → a < length ms → marked (set ms a true) ≡ marking true (a ∷ []) (marked ms)
-mark_one ms a l = fun_ext (λ i. mark_one_at ms a i l)
 
 -- two marks set
 pub mark_two : (ms : List Bool) (a b : ℕ) → a < length ms → b < length ms
@@ -105,3 +102,24 @@ mark_asked asked l = fun_ext (λ i. at i (cases_eq i asked))
 pub read_line : (ls : List written.Line) (i : ℕ) (l : written.Line) → i < length ls → l ≡ get_or ls i l
     → line_of l ≡ line_at (map line_of ls) i
 read_line ls i l inside e = ap line_of e ∙ sym (get_or-map line_of ls i l (predicate 0 []) inside)
+
+module _ {A : Type 0} where
+  -- what stands behind the others is the next that they do not have
+  last_read : (zs ls : List A) (x : A) → zs ++ (x ∷ []) ≡ take (suc (length zs)) ls
+      → (zs ≡ take (length zs) ls) × (x ≡ get_or ls (length zs) x) × (length zs < length ls)
+  last_read [] [] x e = cc
+  last_read [] (l ∷ ls) x e = (refl, cc, omega arith)
+  last_read (z ∷ zs) [] x e = cc
+  last_read (z ∷ zs) (l ∷ ls) x e =
+      let rest = last_read zs ls x (ap (drop 1) e) in
+      let first : z ≡ l = cc in
+      (rw (first, ← rest.0) refl, rest.1, omega (arith, rest.2))
+
+  -- the last of the lines at the front is read: the others are at the front, and it stood behind them
+  pub read_last : (xs zs ls : List A) (x : A) → xs ≡ take (length xs) ls → xs ≡ zs ++ (x ∷ [])
+      → (zs ≡ take (length zs) ls) × (x ≡ get_or ls (length zs) x) × (length zs < length ls)
+      × (length xs ≡ suc (length zs))
+  read_last xs zs ls x front last =
+      let size : length xs ≡ suc (length zs) = ap length last ∙ length-append zs (x ∷ []) ∙ add-one (length zs) in
+      let read = last_read zs ls x (sym last ∙ front ∙ ap (λ n. take n ls) size) in
+      (read.0, read.1, read.2, size)

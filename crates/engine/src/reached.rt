@@ -18,7 +18,16 @@ fn mark_named(line: &Line, marks: &mut [bool; MOST_LINES])
 {
     match *line {
         Line::Predicate { .. } => {}
-        Line::And { left, right } | Line::Or { left, right } => {
+        Line::And { left, right }
+        | Line::Or { left, right }
+        | Line::AllUntil {
+            until: left,
+            goal: right,
+        }
+        | Line::SomeUntil {
+            until: left,
+            goal: right,
+        } => {
             marks[left as usize] = true;
             marks[right as usize] = true;
         }
@@ -26,16 +35,11 @@ fn mark_named(line: &Line, marks: &mut [bool; MOST_LINES])
         | Line::Exists { line, .. }
         | Line::AllNext { line }
         | Line::SomeNext { line } => marks[line as usize] = true,
-        Line::AllUntil { until, goal } | Line::SomeUntil { until, goal } => {
-            marks[until as usize] = true;
-            marks[goal as usize] = true;
-        }
     }
 }
 
 /// The lines that the asked line reaches: itself, and the operands of each that it reaches.
-// By number and downwards: a line's number is its place among the lines and among the marks, and it names only earlier
-// ones. The marks are in place, since no check wants memory.
+// Downwards, since a line names only earlier ones. The marks are in place, since no check wants memory.
 pub fn reached(lines: &[Line], asked: usize) -> [bool; MOST_LINES]
     requires few { length lines.now ≤ most_lines }
     requires ordered { Ordered (map line_of lines.now) }
@@ -44,9 +48,9 @@ pub fn reached(lines: &[Line], asked: usize) -> [bool; MOST_LINES]
 {
     let mut marks = [false; MOST_LINES];
     marks[asked] = true;
-    for i in (0..asked + 1).rev() {
+    for (i, line) in lines[..=asked].iter().enumerate().rev() {
         if marks[i] {
-            mark_named(&lines[i], &mut marks);
+            mark_named(line, &mut marks);
         }
     }
     marks

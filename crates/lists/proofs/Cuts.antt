@@ -1,7 +1,7 @@
 -- Rows cut into lists: what each list is, and what writes of rows and lengths do.
 use Rattle.std.proofs.Common.{◌≡◌, ℕ, zero, suc, ◌+◌, ◌*◌, ◌<◌, ◌≤◌, List, [], ◌∷◌, ◌++◌, length, get_or, take, drop, set, replicate, sym, refl, ap, ◌∙◌, suc-mul, zero-mul, arith}
 use Rattle.lists.specs.Lent.{cut}
-use Rattle.std.proofs.lemmas.List.{drop-drop, drop-set-add, drop-set-lt, get_or-drop, get_or-take, length-drop, length-take-le, take_more_set, take-set-le}
+use Rattle.std.proofs.lemmas.List.{drop-drop, drop-set-add, drop-set-lt, length-drop, length-take-le, take_more_set, take-set-le}
 
 module _ {A : Type 0} (limit : ℕ) where
   pub length_cut : (ns : List ℕ) (rows : List A) → length (cut limit ns rows) ≡ length ns
@@ -24,13 +24,6 @@ module _ {A : Type 0} (limit : ℕ) where
     length_at_cut fits =
         ap length (at_cut ns rows i inside)
         ∙ length-take-le (get_or ns i 0) (drop (i * limit) rows) (simp length-drop (omega arith))
-
-    -- a row of a list
-    pub read_cut : (k : ℕ) (r : A) → k < get_or ns i 0 → r ≡ get_or rows (i * limit + k) r
-        → r ≡ get_or (get_or (cut limit ns rows) i []) k r
-    read_cut k r below read =
-        let here = get_or-take (get_or ns i 0) (drop (i * limit) rows) k r below in
-        read ∙ sym (ap (λ xs. get_or xs k r) (at_cut ns rows i inside) ∙ here ∙ get_or-drop (i * limit) rows k r)
 
   -- a list of length 0 is empty
   pub cut_clear : (ns : List ℕ) (rows : List A) (i : ℕ) → cut limit (set ns i 0) rows ≡ set (cut limit ns rows) i []

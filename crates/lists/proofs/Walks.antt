@@ -1,9 +1,9 @@
 -- A walk that adds rows to one list of a table, as the loop of every operator does: how far it has come.
-use Rattle.std.proofs.Common.{◌≡◌, ℕ, ◌<◌, List, [], ◌++◌, length, get_or, IsErrAnd, Ok, Err, Result, sym, refl, ap, ◌∙◌, subst, arith}
+use Rattle.std.proofs.Common.{◌≡◌, ℕ, ◌<◌, List, [], ◌++◌, length, get_or, IsErrAnd, Ok, Err, Result, sym, ap, ◌∙◌, subst, arith}
 use Rattle.kinds.specs.Model.{Model}
 use Rattle.lists.specs.Tables.{Table, adding, at, left_by, with_list}
 use Rattle.lists.proofs.Added.{adding-append, adding_but, adding_none}
-use Rattle.lists.proofs.Tables.{at_with_other, length_with, with_at, with_with}
+use Rattle.lists.proofs.Tables.{at_with_other, length_with, with_with}
 use Rattle.logic.specs.Outcomes.{Outcome, then}
 use Rattle.logic.specs.declared.shortage.Shortage.{Shortage}
 use Rattle.rows.specs.declared.row.Row.{Row}
@@ -17,10 +17,6 @@ pub record Walked {B : Type 0} (m : Model B) (t0 t : Table (Row B)) (dest : ℕ)
   pub left : adding m t dest rest ≡ adding m t0 dest all
 
 module _ {B : Type 0} {m : Model B} where
-  -- no step is made yet
-  pub walk_none : (t0 : Table (Row B)) (dest : ℕ) (all : List (Row B)) → Walked m t0 t0 dest all all
-  walk_none t0 dest all = record { but = sym (with_at t0 dest); left = refl }
-
   module _ {t0 t : Table (Row B)} {dest : ℕ} {rest all : List (Row B)} (w : Walked m t0 t dest rest all) where
     -- another list is as it was
     pub walk_other : {j : ℕ} → (j ≡ dest → ⊥) → at t j ≡ at t0 j

@@ -5,6 +5,9 @@
 // Which list.
 pub mod slot;
 
+// Which list is read, and which grows by it.
+pub mod route;
+
 // Lists of at most so many rows.
 pub mod lists;
 

@@ -1,11 +1,11 @@
 // The denial of a row, walked: the rows that together cover what the row does not, none of them held.
-ghost use Rattle.std.specs.Prelude.{◌≡◌, ◌<◌};
+ghost use Rattle.std.specs.Prelude.{◌≡◌};
 ghost use Rattle.std.specs.Iterator.{YieldsFirst, item_count};
-ghost use Rattle.flow.specs.Limits.{variables};
 ghost use Rattle.std.specs.List.{slice_get};
 ghost use Rattle.rows.specs.Denials.{besides, besides_left, denial, elsewhere_left, left};
 
 use crate::row::{BOXES, Row};
+use crate::variable::Variable;
 use kinds::kind::Kind;
 use std::ops::Range;
 
@@ -32,13 +32,11 @@ impl<K: Kind> Drop for Denial<K> {
     }
 }
 
-// A blank row of the row's state with a piece of its box of a variable, or none past the last piece. The bound is that
-// of `with_box`.
-fn beside<K: Kind>(row: &Row<K::Box>, variable: usize, piece: usize) -> Option<Row<K::Box>>
-    requires { variable < variables }
-    ensures { result ≡ slice_get (besides K.model row.now variable) piece }
+// A blank row of the row's state with a piece of its box of a variable, or none past the last piece.
+fn beside<K: Kind>(row: &Row<K::Box>, variable: Variable, piece: usize) -> Option<Row<K::Box>>
+    ensures { result ≡ slice_get (besides K.model row.now variable.number) piece }
 {
-    let b = row.boxes[variable];
+    let b = row.boxes[variable.number];
     let c = K::piece(&b, piece)?;
     Some(Row::blank::<K>(row.state).with_box::<K>(variable, c))
 }
@@ -63,8 +61,11 @@ impl<K: Kind> Denial<K> {
         ensures same { elsewhere_left K.model self.new ≡ elsewhere_left K.model self.old }
     {
         while self.variable < BOXES {
+            let variable = Variable {
+                number: self.variable,
+            };
             if self.piece < K::PIECES
-                && let Some(row) = beside::<K>(&self.of, self.variable, self.piece)
+                && let Some(row) = beside::<K>(&self.of, variable, self.piece)
             {
                 self.piece += 1;
                 return Some(row);

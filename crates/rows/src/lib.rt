@@ -5,6 +5,9 @@
 // Sets of witness numbers.
 pub mod forest;
 
+// Which variable.
+pub mod variable;
+
 // Where a line holds, and what bears witness to it.
 pub mod row;
 pub mod witness;

@@ -1,9 +1,9 @@
 // A row: a state where a line holds, what each variable may stand for there, and what bears witness.
-ghost use Rattle.std.specs.Prelude.{◌≡◌, ◌<◌};
-ghost use Rattle.flow.specs.Limits.{variables};
+ghost use Rattle.std.specs.Prelude.{◌≡◌};
 ghost use Rattle.rows.specs.Rows.{blank, equal, join, meets, same_boxes, with_box};
 
 use crate::forest::Forest;
+use crate::variable::Variable;
 use flow::limits::VARIABLES;
 use kinds::kind::Kind;
 
@@ -53,13 +53,11 @@ impl<B: Copy> Row<B> {
         }
     }
 
-    /// The row with another box for one variable. The variable is one of those that there are, below `BOXES`.
-    // A bound and no type: a variable comes as a number, from a line whose own invariant bounds it.
-    pub fn with_box<K: Kind<Box = B>>(mut self, variable: usize, b: B) -> Row<B>
-        requires { variable < variables }
-        ensures { result ≡ with_box K.model self variable b }
+    /// The row with another box for one variable.
+    pub fn with_box<K: Kind<Box = B>>(mut self, variable: Variable, b: B) -> Row<B>
+        ensures { result ≡ with_box K.model self variable.number b }
     {
-        self.boxes[variable] = b;
+        self.boxes[variable.number] = b;
         self
     }
 

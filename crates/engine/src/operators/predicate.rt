@@ -1,6 +1,5 @@
 // `P`: the rows of labels.
-ghost use Rattle.std.specs.Prelude.{◌≡◌, ◌<◌, Some as There};
-ghost use Rattle.flow.specs.Limits.{variables as variable_count};
+ghost use Rattle.std.specs.Prelude.{◌≡◌, Some as There};
 ghost use Rattle.lists.specs.Changes.{Adds};
 ghost use Rattle.logic.specs.Operators.{labelled, met_with, naming, narrowed as narrower, of_label};
 ghost use Rattle.rows.specs.Rows.{box as box_of};
@@ -13,19 +12,18 @@ use lists::lists::Lists;
 use lists::slot::Slot;
 use logic::shortage::Shortage;
 use rows::row::Row;
+use rows::variable::Variable;
 
-// The row with the box of a variable met with the box of a value, or none where these do not meet. The bound is that of
-// `with_box`.
-fn narrowed<K: Kind>(row: &Row<K::Box>, variable: u32, value: u32) -> Option<Row<K::Box>>
-    requires { variable < variable_count }
+// The row with the box of a variable met with the box of a value, or none where these do not meet.
+fn narrowed<K: Kind>(row: &Row<K::Box>, variable: Variable, value: u32) -> Option<Row<K::Box>>
     ensures { let held = row.now in
-        result ≡ narrower K.model held variable (met_with K.model (box_of K.model held variable) (K.model.one value)) }
+        let x = variable.number in
+        result ≡ narrower K.model held x (met_with K.model (box_of K.model held x) (K.model.one value)) }
 {
-    let x = variable as usize;
-    let held = row.boxes[x];
+    let held = row.boxes[variable.number];
     let one = K::one(value)?;
     let met = K::meet(&held, &one)?;
-    Some(row.with_box::<K>(x, met))
+    Some(row.with_box::<K>(variable, met))
 }
 
 // The row with the box of each variable met with that of its value, in order; none where a meet is none or the counts
@@ -38,7 +36,10 @@ fn named_row<K: Kind>(start: &Row<K::Box>, atom: &Atom, values: &[u32]) -> Optio
     }
     let mut row = *start;
     for (x, n) in atom.variables.iter().zip(values) {
-        row = narrowed::<K>(&row, *x, *n)?;
+        let variable = Variable {
+            number: *x as usize,
+        };
+        row = narrowed::<K>(&row, variable, *n)?;
     }
     Some(row)
 }

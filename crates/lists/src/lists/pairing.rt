@@ -6,6 +6,7 @@ ghost use Rattle.lists.specs.Tables.{at};
 ghost use Rattle.logic.specs.Adding.{pairs};
 
 use crate::lists::Lists;
+use crate::route::Route;
 use crate::slot::Slot;
 use kinds::kind::Kind;
 use logic::shortage::Shortage;
@@ -14,22 +15,15 @@ use rows::row::Row;
 // A row is read by its number in these loops: the list that is walked and the list that grows lie in the same lent
 // rows, so no borrow of the one can last while the other is written.
 impl<'a, B: Copy> Lists<'a, Row<B>> {
-    // Adds to `dest` what a row joins to with each row of a list, in order.
-    fn pair_row<K: Kind<Box = B>>(
-        &mut self,
-        row: Row<B>,
-        list: Slot,
-        dest: Slot,
-    ) -> Result<(), Shortage>
-        // A fact about two arguments of one call: a type for the pair would be made and taken apart at each call.
-        requires { list.number ≢ dest.number }
-        ensures { let rows = at (table_in self.old) list.number in
-            Adds K.model result self.old self.new dest.number (pairs K.model (row ∷ []) rows) }
+    // Adds to the list that grows what a row joins to with each row of the list that is read, in order.
+    fn pair_row<K: Kind<Box = B>>(&mut self, row: Row<B>, route: Route) -> Result<(), Shortage>
+        ensures { let rows = at (table_in self.old) route.source.number in
+            Adds K.model result self.old self.new route.dest.number (pairs K.model (row ∷ []) rows) }
     {
-        for i in 0..self.len(list) {
-            let other = self.get(list, i);
+        for i in 0..self.len(route.source) {
+            let other = self.get(route.source, i);
             if let Some(both) = row.join::<K>(&other) {
-                self.add::<K>(dest, both)?;
+                self.add::<K>(route.dest, both)?;
             }
         }
         Ok(())
@@ -49,9 +43,13 @@ impl<'a, B: Copy> Lists<'a, Row<B>> {
             Adds K.model result self.old self.new dest.number
             (pairs K.model (at table first.number) (at table second.number)) }
     {
+        let route = Route {
+            source: second,
+            dest,
+        };
         for i in 0..self.len(first) {
             let row = self.get(first, i);
-            self.pair_row::<K>(row, second, dest)?;
+            self.pair_row::<K>(row, route)?;
         }
         Ok(())
     }

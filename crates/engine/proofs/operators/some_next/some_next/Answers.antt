@@ -16,9 +16,9 @@ returns-in_err-state_successors g c =
     let many = length-range_with_len 0 graph.states in
     let count = c.states-state-end.ensures in
     let read = counted graph.states state (omega arith) in
-    let gives = ap (λ rows. led_to model graph rows state) (sym (loop_other loop c.requires)) in
-    rw (stepped_joined model graph (at (table_in c.args.lists.now) c.args.list.number))
-    (loop_stop loop (omega arith) read gives c.args.dest.known c.from_residual.result c.from_residual.ensures.1
+    let gives = ap (λ rows. led_to model graph rows state) (sym (loop_other loop c.args.route.apart)) in
+    rw (stepped_joined model graph (at (table_in c.args.lists.now) c.args.route.source.number))
+    (loop_stop loop (omega arith) read gives c.args.route.dest.known c.from_residual.result c.from_residual.ensures.1
     c.in_err-state_successors.ensures)
 
 pub loop-state-preserved : goal.loop-state-preserved
@@ -29,13 +29,13 @@ loop-state-preserved g c =
     let count = c.states-state-end.ensures in
     let state = c.loop-state.state in
     let read = counted graph.states state (omega arith) in
-    let gives = ap (λ rows. led_to g.K.Kind.model graph rows state) (sym (loop_other loop c.requires)) in
-    loop_more loop (omega arith) read gives c.args.dest.known c.in_ok-state_successors.ensures
+    let gives = ap (λ rows. led_to g.K.Kind.model graph rows state) (sym (loop_other loop c.args.route.apart)) in
+    loop_more loop (omega arith) read gives c.args.route.dest.known c.in_ok-state_successors.ensures
 
 pub returns : goal.returns
 returns g c =
     let graph = c.args.case.now.graph in
     let many = length-range_with_len 0 graph.states in
     let count = c.states-state-end.ensures in
-    rw (stepped_joined g.K.Kind.model graph (at (table_in c.args.lists.now) c.args.list.number))
+    rw (stepped_joined g.K.Kind.model graph (at (table_in c.args.lists.now) c.args.route.source.number))
     (loop_all c.loop-state.invariant (omega arith))

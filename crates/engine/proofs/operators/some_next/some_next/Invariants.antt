@@ -9,6 +9,6 @@ use Rattle.engine.proofs.operators.some_next.some_next.Given as goal
 abbrev pub invariant-loop-state : goal.invariant-loop-state
 invariant-loop-state g l =
     let model = g.K.Kind.model in
-    Looped model l.initial.lists l.lists l.dest.number
-    (led_to model l.case.graph (at (table_in l.initial.lists) l.list.number))
+    Looped model l.initial.lists l.lists l.route.dest.number
+    (led_to model l.case.graph (at (table_in l.initial.lists) l.route.source.number))
     (states model l.case.graph) l.state

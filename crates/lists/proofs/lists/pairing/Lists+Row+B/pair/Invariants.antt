@@ -9,5 +9,5 @@ use Rattle.logic.specs.Adding.{pairs}
 abbrev pub invariant-loop-i : goal.invariant-loop-i
 invariant-loop-i g l =
     let table = table_in l.initial.self in
-    Looped g.K.Kind.model l.initial.self l.self l.dest.number
-    (λ row. pairs g.K.Kind.model (row ∷ []) (at table l.second.number)) (at table l.first.number) l.i
+    Looped g.K.Kind.model l.initial.self l.self l.fn.dest.number
+    (λ row. pairs g.K.Kind.model (row ∷ []) (at table l.fn.second.number)) (at table l.first.number) l.i

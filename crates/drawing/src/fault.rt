@@ -10,9 +10,9 @@ use records::fault::Fault as TextFault;
 #[derive(Clone, Copy, PartialEq, Eq, Debug)]
 pub enum Layer {
     /// The text is no record, or not one for this phase.
-    Text,
+    Text = b'T' as isize,
     /// The case refuses the call.
-    Case,
+    Case = b'C' as isize,
 }
 
 /// The layer's letter.
@@ -20,10 +20,7 @@ impl From<Layer> for u8 {
     ghost from_gives = { λ layer result. result ≡ written layer };
 
     fn from(layer: Layer) -> u8 {
-        match layer {
-            Layer::Text => b'T',
-            Layer::Case => b'C',
-        }
+        layer as u8
     }
 }
 
@@ -63,6 +60,7 @@ impl Fault {
     }
 
     /// The number of the fault or of the refusal.
+    // A match, which hands on: each side has its own numbers, of types of their own.
     pub fn number(self) -> u32
         ensures { result ≡ number_of self }
     {

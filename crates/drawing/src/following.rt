@@ -25,6 +25,7 @@ pub(crate) fn follow_records<P: Phase>(
     let mut tally = Tally::default();
     // No `for`: after a loop over `splitter.by_ref()` nothing is known of the records that are left.
     while let Some(record) = splitter.next() {
+        // A match and no closure: by what becomes of a record the loop counts, and ends.
         match phase.follow(&record) {
             Ok(Step::Goes) => {}
             Ok(Step::Checks) => tally.checks += 1,

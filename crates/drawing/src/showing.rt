@@ -84,14 +84,20 @@ fn show_operands(line: &Line, page: &mut Page)
             page.put_fields(&[predicate]);
             page.put_fields(variables.as_slice());
         }
-        Line::And { left, right } | Line::Or { left, right } => page.put_fields(&[left, right]),
+        Line::And { left, right }
+        | Line::Or { left, right }
+        | Line::AllUntil {
+            until: left,
+            goal: right,
+        }
+        | Line::SomeUntil {
+            until: left,
+            goal: right,
+        } => page.put_fields(&[left, right]),
         Line::Not { line } | Line::AllNext { line } | Line::SomeNext { line } => {
             page.put_fields(&[line]);
         }
         Line::Exists { variable, line } => page.put_fields(&[variable, line]),
-        Line::AllUntil { until, goal } | Line::SomeUntil { until, goal } => {
-            page.put_fields(&[until, goal]);
-        }
     }
 }
 

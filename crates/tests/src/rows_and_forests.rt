@@ -7,6 +7,7 @@ use kinds::kind::Kind;
 use rows::denial::Denial;
 use rows::forest::Forest;
 use rows::row::Row;
+use rows::variable::Variable;
 use rows::witness::Witness;
 use std::process::Abort;
 use std::test::*;
@@ -50,7 +51,7 @@ fn rows_are_equal_by_their_parts(rt: HostRuntime) -> Result<(), Fail> {
     assert!(rt; Fragments::same(&blank.boxes[3], &Fragments::all()));
     assert!(rt; blank.equals::<Fragments>(&blank));
     assert!(rt; !blank.equals::<Fragments>(&Row::blank::<Fragments>(2)));
-    let narrowed = blank.with_box::<Fragments>(3, one::<Fragments>(5)?);
+    let narrowed = blank.with_box::<Fragments>(Variable { number: 3 }, one::<Fragments>(5)?);
     assert!(rt; !blank.equals::<Fragments>(&narrowed));
     let mut witnessed = blank;
     witnessed.forest = Forest::single(255);
@@ -61,11 +62,17 @@ fn rows_are_equal_by_their_parts(rt: HostRuntime) -> Result<(), Fail> {
 #[test]
 fn rows_of_a_state_join(rt: HostRuntime) -> Result<(), Fail> {
     let other = but::<Fragments>(5)?;
-    let mut first = Row::blank::<Fragments>(1).with_box::<Fragments>(0, one::<Fragments>(5)?);
+    let mut first = Row::blank::<Fragments>(1).with_box::<Fragments>(
+        Variable { number: 0 },
+        one::<Fragments>(5)?,
+    );
     first.forest = Forest::single(7);
-    let mut second = Row::blank::<Fragments>(1).with_box::<Fragments>(2, other);
+    let mut second = Row::blank::<Fragments>(1).with_box::<Fragments>(
+        Variable { number: 2 },
+        other,
+    );
     second.forest = Forest::single(200);
-    let mut both = first.with_box::<Fragments>(2, other);
+    let mut both = first.with_box::<Fragments>(Variable { number: 2 }, other);
     both.forest = first.forest.union(&second.forest);
     gives::<Fragments>(&rt, first.join::<Fragments>(&second), &both)
 }
@@ -75,8 +82,8 @@ fn rows_apart_do_not_join(rt: HostRuntime) -> Result<(), Fail> {
     let here = Row::blank::<Fragments>(1);
     let there = Row::blank::<Fragments>(2);
     assert!(rt; here.join::<Fragments>(&there).is_none());
-    let five = here.with_box::<Fragments>(3, one::<Fragments>(5)?);
-    let other = here.with_box::<Fragments>(3, but::<Fragments>(5)?);
+    let five = here.with_box::<Fragments>(Variable { number: 3 }, one::<Fragments>(5)?);
+    let other = here.with_box::<Fragments>(Variable { number: 3 }, but::<Fragments>(5)?);
     assert!(rt; five.join::<Fragments>(&other).is_none());
     Ok(())
 }
@@ -104,14 +111,14 @@ fn witnesses_are_equal_by_their_parts(rt: HostRuntime) -> Result<(), Fail> {
 fn fragments_deny(rt: HostRuntime) -> Result<(), Fail> {
     let blank = Row::blank::<Fragments>(1);
     let row = blank
-        .with_box::<Fragments>(0, one::<Fragments>(5)?)
-        .with_box::<Fragments>(2, but::<Fragments>(7)?);
+        .with_box::<Fragments>(Variable { number: 0 }, one::<Fragments>(5)?)
+        .with_box::<Fragments>(Variable { number: 2 }, but::<Fragments>(7)?);
     let mut denial = Denial::<Fragments>::of(&row, 3);
     gives::<Fragments>(&rt, denial.next(), &Row::blank::<Fragments>(0))?;
     gives::<Fragments>(&rt, denial.next(), &Row::blank::<Fragments>(2))?;
-    let other = blank.with_box::<Fragments>(0, but::<Fragments>(5)?);
+    let other = blank.with_box::<Fragments>(Variable { number: 0 }, but::<Fragments>(5)?);
     gives::<Fragments>(&rt, denial.next(), &other)?;
-    let seven = blank.with_box::<Fragments>(2, one::<Fragments>(7)?);
+    let seven = blank.with_box::<Fragments>(Variable { number: 2 }, one::<Fragments>(7)?);
     gives::<Fragments>(&rt, denial.next(), &seven)?;
     assert!(rt; denial.next().is_none());
     assert!(rt; denial.next().is_none());
@@ -121,13 +128,13 @@ fn fragments_deny(rt: HostRuntime) -> Result<(), Fail> {
 #[test]
 fn amounts_deny(rt: HostRuntime) -> Result<(), Fail> {
     let blank = Row::blank::<Amounts>(0);
-    let row = blank.with_box::<Amounts>(3, Span { low: 5, high: 9 });
+    let row = blank.with_box::<Amounts>(Variable { number: 3 }, Span { low: 5, high: 9 });
     let mut denial = Denial::<Amounts>::of(&row, 2);
     gives::<Amounts>(&rt, denial.next(), &Row::blank::<Amounts>(1))?;
-    let lower = blank.with_box::<Amounts>(3, Span { low: 0, high: 4 });
+    let lower = blank.with_box::<Amounts>(Variable { number: 3 }, Span { low: 0, high: 4 });
     gives::<Amounts>(&rt, denial.next(), &lower)?;
     let higher = blank.with_box::<Amounts>(
-        3,
+        Variable { number: 3 },
         Span {
             low: 10,
             high: 4294967295,

@@ -35,7 +35,7 @@ FORMS = [
     (5, "parameters that travel together", r"rows: &(?:mut )?\[Row<K::Box>\]|table: &(?:mut )?\[Witness<K::Box>\]"),
     (6, "an array or a buffer with its length or its use beside it",
      r"(?:lengths|words|numbers|values|boxes|marks): (?:&mut )?\[|bytes: Vec|count: usize"),
-    (7, "a step by its number or its name", r"Step::\w+ =>|variable: usize,|piece: usize,"),
+    (7, "a step by its number or its name", r"Step::\w+\)? =>|variable: usize,|piece: usize,"),
 ]
 
 

@@ -1,4 +1,4 @@
-// A case as records.
+// A case as records, on a page, and so no `Display`: see its `put_number`.
 #![tactic(auto, using(crate::proofs::Steps::walking))]
 
 ghost use Rattle.std.specs.Prelude.{◌∷◌, ◌++◌, map, codes};

@@ -10,6 +10,7 @@ mod entering;
 mod reading;
 
 // Only `close` makes one, and only `line` changes it.
+// No derived comparison: nothing compares two of them.
 #[derive(Drop)]
 pub struct Case {
     pub(crate) states: u32,

@@ -13,6 +13,7 @@ mod reading;
 mod refusing;
 
 // The graph so far, with room for what may still come.
+// No derived comparison: nothing compares two of them.
 #[derive(Drop)]
 pub struct Draft {
     states: u32,

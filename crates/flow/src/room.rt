@@ -12,6 +12,7 @@ mod getting;
 // The tables of a case, with nothing in them yet.
 // A draft and a case have the same three, each with a promise of its own: one struct of them would only stand between
 // a method and its table, and between a promise and what it is about.
+// No derived comparison: nothing compares two of them.
 #[derive(Drop)]
 pub struct Room {
     pub(crate) edges: Store<Edge, MOST_CLOSED_EDGES>,

@@ -39,6 +39,7 @@ pub trait Kind {
         ensures { result ≡ slice_get (model.pieces b.now) i };
 
     /// Whether both boxes allow the same values.
+    // Not `==`, which says how boxes are held: a kind may hold one set of values in two ways.
     fn same(a: &Self::Box, b: &Self::Box) -> bool
         ensures { result ≡ model.same a.now b.now };
 

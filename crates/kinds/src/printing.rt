@@ -6,6 +6,7 @@ use crate::kind::Kind;
 use pages::page::Page;
 
 /// A kind that can print its boxes.
+// On a page, and so no `Display`: see `put_number` there.
 pub trait PrintingKind: Kind {
     ghost text: { Self.Box → List ℕ };
 

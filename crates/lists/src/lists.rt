@@ -13,6 +13,8 @@ pub const LISTS: usize = 36;
 
 /// Lists of at most `limit` rows each, in rows that are lent. R is the sort of row, `Row<B>` for boxes B: so named, its
 /// size is known wherever the lists are.
+// No derived comparison: nothing compares two of them. And no `Model`, which would hide what the lent rows hold at the
+// end.
 #[derive(Drop)]
 pub struct Lists<'a, R> {
     rows: &'a mut [R],

@@ -10,6 +10,7 @@ pub const MOST_WITNESSES: usize = 256;
 
 /// The witnesses that have been formed, at the front of a table that is lent. W is the sort of witness, `Witness<B>`
 /// for boxes B.
+// No derived comparison: nothing compares two of them.
 #[derive(Drop)]
 pub struct Witnesses<'a, W> {
     table: &'a mut [W],

@@ -11,6 +11,7 @@ mod writing;
 pub const LIMIT: usize = 65536;
 
 /// Printed bytes. A contract sees the bytes, or none once a byte found no room.
+// No derived comparison: nothing compares two of them.
 #[derive(Drop)]
 pub struct Page {
     bytes: Store<u8, LIMIT>,

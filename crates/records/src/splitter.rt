@@ -9,9 +9,11 @@ use crate::record::Record;
 use crate::scan::{Cut, first_cut};
 
 /// What is left of the text, and how many records were read. Each took a byte or more, so their count fits.
+// No derived comparison: nothing compares two of them.
 #[derive(Drop)]
 pub struct Splitter<'a> {
     left: &'a [u8],
+    // No length of `left`: it numbers the records.
     count: usize,
     ghost counted: { count + length left.now < 2 ^ 64 },
 }

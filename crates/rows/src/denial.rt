@@ -14,7 +14,8 @@ use std::ops::Range;
 pub struct Denial<K: Kind> {
     of: Row<K::Box>,
     // The states to come, and after them the next piece of the box of a variable. A place and no iterator of pieces,
-    // since a kind gives its pieces by their place.
+    // since a kind gives its pieces by their place; the variable is counted too, since a range would have given up the
+    // one whose pieces are still to come.
     states: Range<u32>,
     variable: usize,
     piece: usize,
@@ -87,6 +88,7 @@ impl<K: Kind> Iterator for Denial<K> {
     /// The next row, or none where all have come.
     fn next(&mut self) -> Option<Row<K::Box>> {
         let own = self.of.state;
+        // A match: with `map` and `or_else` two goals stay open.
         match self.states.find(|state| *state != own) {
             Some(state) => Some(Row::blank::<K>(state)),
             None => self.next_beside(),

@@ -5,6 +5,7 @@ use std::alloc::{AllocError, Global};
 use std::marker::Model;
 
 /// A list of at most N things. A contract sees the list.
+// No derived comparison: nothing compares two of them.
 #[derive(Drop)]
 pub struct Store<T, const N: usize> {
     items: Vec<T>,

@@ -69,6 +69,7 @@ fn state_labels<K: Kind>(
 
 /// Adds to `dest` the rows of `P`: for each state and each of its labels with the predicate and as many values, in
 /// order.
+// `case` and `lists` stay two: each operator has operands of its own beside them.
 pub fn predicate<K: Kind>(
     case: &Case,
     lists: &mut Lists<'_, Row<K::Box>>,

@@ -56,6 +56,7 @@ fn state_successors<K: Kind>(
 
 /// Adds to the list that grows the rows of `N` of the list that is read: for each state and each of its successors,
 /// the rows at the successor, rewritten to the state.
+// `case` and `lists` stay two, as for `P`.
 pub fn some_next<K: Kind>(
     case: &Case,
     lists: &mut Lists<'_, Row<K::Box>>,

@@ -52,6 +52,8 @@ impl Page {
     }
 
     /// Prints a number to base ten.
+    // No `Display`: a page's memory is got once, and the library says only of a `String`, which grows, what printing
+    // leaves.
     pub fn put_number(&mut self, n: u32)
         ensures { Prints self.old (decimal n) self.new }
     {

@@ -1,13 +1,17 @@
 -- The table that lent rows stand for: its limit, its lists and where their rows lie.
 use Rattle.std.proofs.Common.{◌≡◌, ℕ, suc, ◌+◌, ◌*◌, ◌<◌, ◌≤◌, List, length, get_or, set, take, drop, replicate, refl, ap, ◌∙◌, ⊎_elim, mul-le-mul_right, suc-mul, arith}
 use Rattle.lists.specs.Counts.{list_count}
-use Rattle.lists.specs.Lent.{cut, table_in}
+use Rattle.lists.specs.Lent.{cut, room_for, table_in}
 use Rattle.lists.specs.Tables.{at, no_rows}
 use Rattle.lists.specs.declared.lists.Lists.{Lists}
 use Rattle.lists.proofs.Cuts.{at_cut, cut_none, length_at_cut, length_cut}
 use Rattle.std.proofs.lemmas.Nat.{mul-add-lt}
 use Rattle.std.proofs.lemmas.List.{get_or-set_other, get_or-set_same, length-set}
 use Rattle.std.proofs.lemmas.Bool.{cases_eq}
+
+-- rows that suffice for as many as are wanted have room for them
+pub room_all : {A : Type 0} (rows : List A) {limit : ℕ} → list_count * limit ≤ length rows → room_for rows limit ≡ limit
+room_all rows fits = omega (arith, fits)
 
 module _ {R : Type 0} (l : Lists R) where
   pub table_limit : (table_in l).limit ≡ l.limit

@@ -14,7 +14,7 @@ use Rattle.std.proofs.lemmas.Bool.{le-ltb, lt-ltb}
 -- there are as many as the count says
 pub length_formed : {W : Type 0} (ws : Witnesses W) → length (formed_in ws) ≡ ws.count
 unfolding formed_in
-length_formed ws = length-take-le ws.count ws.table.now (omega (arith, ws.few, ws.lent))
+length_formed ws = length-take-le ws.count ws.table.now ws.lent
 
 module _ {B : Type 0} (m : Model B) (us : List (Witness B)) (w : Witness B) where
   -- an equal witness is there

@@ -22,7 +22,7 @@ pub struct Lists<'a, R> {
     // Beside the rows, since what is lent has room for rows alone.
     lengths: [usize; LISTS],
     ghost small: { limit ≤ most_rows },
-    ghost lent: { length rows.now ≡ list_count * limit },
+    ghost lent: { list_count * limit ≤ length rows.now },
     ghost many: { length lengths ≡ list_count },
     ghost within: { (i : ℕ) → slice_index lengths i ≤ limit },
 }

@@ -1,5 +1,5 @@
 // The table of witnesses: those that a check has formed stand at its front, each at its number.
-ghost use Rattle.std.specs.Prelude.{◌≡◌, ◌≤◌, length};
+ghost use Rattle.std.specs.Prelude.{◌≤◌, length};
 ghost use Rattle.rows.specs.Forests.{most_witnesses};
 
 mod counting;
@@ -16,6 +16,6 @@ pub struct Witnesses<'a, W> {
     table: &'a mut [W],
     // Beside the table, which is lent whole and holds witnesses alone.
     count: usize,
-    ghost lent: { length table.now ≡ most_witnesses },
+    ghost lent: { count ≤ length table.now },
     ghost few: { count ≤ most_witnesses },
 }

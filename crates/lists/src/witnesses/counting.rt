@@ -1,14 +1,12 @@
 // How many witnesses there are.
 ghost use Rattle.std.specs.Prelude.{◌≡◌, [], length};
 ghost use Rattle.lists.specs.Formed.{formed_in};
-ghost use Rattle.rows.specs.Forests.{most_witnesses};
 
 use crate::witnesses::Witnesses;
 
 impl<'a, W> Witnesses<'a, W> {
-    /// No witness yet. The table is lent for as long as the witnesses are there.
+    /// No witness yet, in any table. It is lent for as long as the witnesses are there.
     pub fn none(table: &'a mut [W]) -> Witnesses<'a, W>
-        requires { length table.old ≡ most_witnesses }
         ensures same_table { result.table.ghost_name ≡ table.entry.ghost_name }
         ensures as_it_was { result.table.now ≡ table.old }
         ensures none { formed_in result ≡ [] }

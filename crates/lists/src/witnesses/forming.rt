@@ -1,7 +1,8 @@
 // Forming witnesses.
-ghost use Rattle.std.specs.Prelude.{◌≡◌};
+ghost use Rattle.std.specs.Prelude.{◌≡◌, ◌≤◌, length};
 ghost use Rattle.lists.specs.Formed.{Forms, formed_in};
 ghost use Rattle.logic.specs.Witnessing.{number_from};
+ghost use Rattle.rows.specs.Forests.{most_witnesses};
 ghost use Rattle.rows.specs.Witnesses.{equal_witness};
 
 use crate::witnesses::{MOST_WITNESSES, Witnesses};
@@ -24,6 +25,7 @@ impl<'a, B: Copy> Witnesses<'a, Witness<B>> {
     /// Forms a witness and answers its number: an equal one keeps its number, any other gets the next. Refuses one too
     /// many.
     pub fn form<K: Kind<Box = B>>(&mut self, witness: Witness<B>) -> Result<u8, Shortage>
+        requires { most_witnesses ≤ length self.old.table.now }
         ensures { Forms K.model result self.old self.new witness }
     {
         if let Some(n) = self.number::<K>(&witness) {

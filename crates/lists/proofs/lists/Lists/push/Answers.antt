@@ -1,4 +1,4 @@
-use Rattle.std.proofs.Common.{ap, refl, ◌∙◌, arith, rules}
+use Rattle.std.proofs.Common.{ap, refl, arith, rules}
 use Rattle.lists.specs.Lent.{table_in}
 use Rattle.lists.proofs.Cuts.{cut_push}
 use Rattle.lists.proofs.Lent.{end_place, length-at_table, lengths_many, lengths_with}
@@ -14,7 +14,7 @@ pub bounds-self-list-2 : goal.bounds-self-list-2
 bounds-self-list-2 g c = end_place c.args.self.now c.args.list.known c.requires
 
 pub invariant_of-self-clause-lent : goal.invariant_of-self-clause-lent
-invariant_of-self-clause-lent g c = let l = c.args.self.now in length-set l.rows.now _ _ ∙ l.lent
+invariant_of-self-clause-lent g c = let l = c.args.self.now in rw (length-set l.rows.now _ _) l.lent
 
 pub invariant_of-self-clause-many : goal.invariant_of-self-clause-many
 invariant_of-self-clause-many g c = lengths_many c.args.self.now _ _

@@ -32,6 +32,6 @@ returns g c =
     record {
       same_table = refl;
       forms = ap (λ us. Ok (record { witnesses = us; number = ws.count }))
-          (take_more_set ws.table.now ws.count c.args.witness (omega (arith, ws.lent, ws.few)))
+          (take_more_set ws.table.now ws.count c.args.witness (omega (arith, c.requires)))
           ∙ sym new;
     }

@@ -30,6 +30,7 @@ module _ {A Z : Type 0} (f : Z → List A) (zs : List Z) (i : ℕ) where
 pub record Looped {B Z : Type 0} (m : Model B) (l0 l : Lists (Row B)) (dest : ℕ) (f : Z → List (Row B)) (zs : List Z)
     (i : ℕ) : Type 0 where
   pub same_rows : l.rows.ghost_name ≡ l0.rows.ghost_name
+  pub as_many : length l.rows.now ≡ length l0.rows.now
   pub walk : Walked m (table_in l0) (table_in l) dest (rest_from f zs i) (flat_map f zs)
 
 module _ {B Z : Type 0} {m : Model B} {l0 : Lists (Row B)} {dest : ℕ} {f : Z → List (Row B)} {zs : List Z} where
@@ -45,7 +46,12 @@ module _ {B Z : Type 0} {m : Model B} {l0 : Lists (Row B)} {dest : ℕ} {f : Z �
 
     -- the loop is at its end
     pub loop_all : length zs ≤ i → Adds {A = Unit {0}} m (Ok tt) l0 l dest (flat_map f zs)
-    loop_all past = record { same_rows = loop.same_rows; adds = walk_all loop.walk (rest_all f zs i past) }
+    loop_all past =
+        record {
+          same_rows = loop.same_rows;
+          as_many = loop.as_many;
+          adds = walk_all loop.walk (rest_all f zs i past);
+        }
 
     module _ {z : Z} {xs : List (Row B)} (below : i < length zs) (read : z ≡ get_or zs i z) (gives : f z ≡ xs)
         (known : dest < list_count) where
@@ -57,6 +63,7 @@ module _ {B Z : Type 0} {m : Model B} {l0 : Lists (Row B)} {dest : ℕ} {f : Z �
       loop_more did =
           record {
             same_rows = did.same_rows ∙ loop.same_rows;
+            as_many = did.as_many ∙ loop.as_many;
             walk = walk_more loop.walk (table_has l0 known) xs (rest_from f zs (i + 1)) next did.adds;
           }
 
@@ -66,6 +73,7 @@ module _ {B Z : Type 0} {m : Model B} {l0 : Lists (Row B)} {dest : ℕ} {f : Z �
       loop_stop r by did =
           record {
             same_rows = did.same_rows ∙ loop.same_rows;
+            as_many = did.as_many ∙ loop.as_many;
             adds = stopped r _ by (walk_stop loop.walk (table_has l0 known) xs (rest_from f zs (i + 1)) next did.adds);
           }
 
@@ -74,5 +82,6 @@ module _ {B Z : Type 0} {m : Model B} {l0 : Lists (Row B)} {dest : ℕ} {f : Z �
     loop_skip {z} below read none =
         record {
           same_rows = loop.same_rows;
+          as_many = loop.as_many;
           walk = walk_skip loop.walk (rest_more f zs i z below read ∙ ap (λ rs. rs ++ rest_from f zs (i + 1)) none);
         }

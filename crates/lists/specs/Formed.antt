@@ -1,5 +1,5 @@
 -- The witnesses that a lent table stands for.
-use Rattle.std.specs.Prelude.{◌≡◌, ℕ, List, take, Ok, Err, Result}
+use Rattle.std.specs.Prelude.{◌≡◌, ℕ, List, length, take, Ok, Err, Result}
 use Rattle.kinds.specs.Model.{Model}
 use Rattle.lists.specs.declared.witnesses.Witnesses.{Witnesses}
 use Rattle.logic.specs.Outcomes.{Outcome}
@@ -20,4 +20,6 @@ formed_by (Err e) us = Err e
 pub record Forms {B : Type 0} (m : Model B) (result : Result ℕ Shortage) (w w' : Witnesses (Witness B))
     (u : Witness B) : Type 0 where
   pub same_table : w'.table.ghost_name ≡ w.table.ghost_name
+  -- the table is as long as it was, after a refusal too
+  pub as_many : length w'.table.now ≡ length w.table.now
   pub forms : formed_by result (formed_in w') ≡ form m (formed_in w) u

@@ -9,6 +9,7 @@ returns g c =
     let l = c.args.self.now in
     record {
       same_rows = refl;
+      as_many = refl;
       puts = ap (λ lists. record { limit = l.limit; lists = lists })
           (cut_clear l.limit l.lengths l.rows.now c.args.list.number);
     }

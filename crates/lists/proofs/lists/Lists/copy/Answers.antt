@@ -20,6 +20,7 @@ returns g c =
     (l.within from) (simp length-drop (omega (arith, whole))) (rows_in l c.args.to.known count (l.within from)) in
     record {
       same_rows = refl;
+      as_many = c.copy_within.ensures.len;
       puts = ap (λ lists. record { limit = l.limit; lists = lists })
           (ap (λ rows. cut l.limit (set l.lengths to count) rows)
           (c.copy_within.ensures.after ∙ ap (λ n. paste l.rows.now (to * l.limit) rest n) long)

@@ -32,6 +32,7 @@ returns g c =
     let long = length-at_table l known in
     record {
       same_rows = refl;
+      as_many = length-set l.rows.now _ _;
       puts = ap (λ lists. record { limit = l.limit; lists = lists })
           (cut_push l.limit l.lengths l.rows.now c.args.list.number c.args.row (omega (arith, l.many)) l.within
           (omega (arith, c.requires, long)) (end_place l known c.requires));

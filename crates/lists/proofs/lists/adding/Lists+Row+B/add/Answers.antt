@@ -8,18 +8,22 @@ pub returns-then-tells : goal.returns-then-tells
 returns-then-tells g c =
     let l = c.args.self.now in
     let told = adding-told g.K.Kind.model (table_in l) c.args.list.number c.args.row (sym c.if-tells.ensures) in
-    record { same_rows = refl; adds = sym told }
+    record { same_rows = refl; as_many = refl; adds = sym told }
 
 pub returns-then-len-self : goal.returns-then-len-self
 returns-then-len-self g c =
     let l = c.args.self.now in
     let full = adding_full g.K.Kind.model (table_in l) c.args.list.number c.args.row (sym c.if-tells.ensures)
     (omega (arith, table_limit l, c.len.ensures)) in
-    record { same_rows = refl; adds = sym full }
+    record { same_rows = refl; as_many = refl; adds = sym full }
 
 pub returns : goal.returns
 returns g c =
     let l = c.args.self.now in
     let new = adding_new g.K.Kind.model (table_in l) c.args.list.number c.args.row (sym c.if-tells.ensures)
     (omega (arith, table_limit l, c.len.ensures)) in
-    record { same_rows = c.push.ensures.same_rows; adds = ap Ok c.push.ensures.puts ∙ sym new }
+    record {
+      same_rows = c.push.ensures.same_rows;
+      as_many = c.push.ensures.as_many;
+      adds = ap Ok c.push.ensures.puts ∙ sym new;
+    }

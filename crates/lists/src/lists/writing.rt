@@ -1,5 +1,5 @@
 // How a list is written: emptied, lengthened, copied.
-ghost use Rattle.std.specs.Prelude.{◌<◌, [], ◌∷◌, ◌++◌, length};
+ghost use Rattle.std.specs.Prelude.{◌≡◌, ◌<◌, [], ◌∷◌, ◌++◌, length};
 ghost use Rattle.lists.specs.Changes.{Puts};
 ghost use Rattle.lists.specs.Lent.{table_in};
 ghost use Rattle.lists.specs.Tables.{at};
@@ -8,9 +8,10 @@ use crate::lists::Lists;
 use crate::slot::Slot;
 
 impl<'a, R: Copy> Lists<'a, R> {
-    /// Empties a list.
+    /// Empties a list. The lent rows stay as they are.
     pub fn clear(&mut self, list: Slot)
-        ensures { Puts self.old self.new list.number [] }
+        ensures puts { Puts self.old self.new list.number [] }
+        ensures as_they_were { self.new.rows.now ≡ self.old.rows.now }
     {
         self.lengths[list.number] = 0;
     }

@@ -3,9 +3,13 @@ use Rattle.lists.specs.Lent.{table_in}
 use Rattle.lists.proofs.Cuts.{cut_clear}
 use Rattle.lists.proofs.lists.Lists.clear.Goals as goal
 
-pub returns : goal.returns
+-- said here, and first, so that a body which writes a row is refused for just that
+pub returns-clause-as_they_were : goal.returns-clause-as_they_were
+returns-clause-as_they_were g c = refl
+
+pub returns-clause-puts : goal.returns-clause-puts
 unfolding table_in
-returns g c =
+returns-clause-puts g c =
     let l = c.args.self.now in
     record {
       same_rows = refl;

@@ -6,6 +6,7 @@ use Rattle.lists.proofs.Tables.{at_with_same, with_at, with_with}
 use Rattle.logic.proofs.Thens.{err_ok, ok_inj}
 use Rattle.logic.specs.Adding.{add, add_all, told}
 use Rattle.logic.specs.Outcomes.{Outcome, then}
+use Rattle.logic.specs.declared.shortage.Shortage.{Shortage}
 use Rattle.logic.specs.declared.shortage.Shortage.TheVariants.{Rows}
 use Rattle.rows.specs.declared.row.Row.{Row}
 use Rattle.std.proofs.lemmas.Bool.{le-ltb, lt-ltb}
@@ -66,6 +67,26 @@ module _ {B : Type 0} (m : Model B) where
             ∙ ap (λ more. then (add_all m t.limit more ys) (λ all. Ok (with_list (with_list t i rows) i all)))
             (sym (at_with_same t rows inside))
         step (Err e) = refl
+
+    -- the list that is left
+    pub adding-at : {t' : Table (Row B)} (rs : List (Row B)) → i < length t.lists → Ok t' ≡ adding m t i rs
+        → add_all m t.limit (at t i) rs ≡ Ok (at t' i)
+    unfolding adding
+    adding-at {t'} rs inside did = step (add_all m t.limit (at t i) rs) did
+      where
+        step : (o : Outcome (List (Row B))) → Ok t' ≡ then o (λ rows. Ok (with_list t i rows)) → o ≡ Ok (at t' i)
+        step (Ok rows) e = ap Ok (sym (ap (λ u. at u i) (ok_inj e) ∙ at_with_same t rows inside))
+        step (Err x) e = absurd (err_ok (sym e))
+
+    -- the list has no room for them
+    pub adding_short : {s : Shortage} (rs : List (Row B)) → Err s ≡ adding m t i rs
+        → add_all m t.limit (at t i) rs ≡ Err s
+    unfolding adding
+    adding_short {s} rs did = step (add_all m t.limit (at t i) rs) did
+      where
+        step : (o : Outcome (List (Row B))) → Err s ≡ then o (λ rows. Ok (with_list t i rows)) → o ≡ Err s
+        step (Ok rows) e = absurd (err_ok e)
+        step (Err x) e = cc
 
     module _ (r : Row B) where
       -- a row that need not be added

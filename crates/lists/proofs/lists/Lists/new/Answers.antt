@@ -5,7 +5,7 @@ use Rattle.lists.proofs.Lent.{room_all, table_none}
 use Rattle.lists.proofs.lists.Lists.new.Goals as goal
 
 pub invariant_of-result-clause-within : goal.invariant_of-result-clause-within
-invariant_of-result-clause-within g c = zeros_within 36 _
+invariant_of-result-clause-within g c = zeros_within 36 c.min-limit.result
 
 pub returns-clause-empty : goal.returns-clause-empty
 returns-clause-empty g c = table_none _ refl ∙ ap no_rows c.min-limit.ensures

@@ -1,12 +1,12 @@
 -- Bytes added to what a page shows, one lot after the other.
 use Rattle.std.proofs.Common.{◌≡◌, ℕ, ◌+◌, ◌<◌, ◌≤◌, cond, leb, List, [], ◌∷◌, ◌++◌, length, Some, None, Option, sym, refl, ap, ◌∙◌, inl, inr, append_assoc, append-nil, arith, length-append}
-use Rattle.std.proofs.lemmas.Bool.{le-leb, lt-leb}
+use Rattle.std.proofs.lemmas.Bool.{cond_both, le-leb, leb-true, lt-leb}
 use Rattle.std.proofs.lemmas.Bool.Decides.{leb_tells}
 use Rattle.std.proofs.lemmas.Fmt.{decimal_digit, decimal_step}
 use Rattle.std.proofs.lemmas.Grind.{common_steps}
 use Rattle.std.proofs.lemmas.List.Concat.{flat_map-append}
 use Rattle.pages.specs.Limit.{limit}
-use Rattle.pages.specs.Pages.{add}
+use Rattle.pages.specs.Pages.{Within, add}
 
 -- where there is room for all, all are there
 pub add_room : (xs bs : List ℕ) → length xs + length bs ≤ limit → add (Some xs) bs ≡ Some (xs ++ bs)
@@ -27,6 +27,31 @@ pub add_within : (xs bs : List ℕ) → length xs ≤ limit
 unfolding add
 add_within xs [] h = rw (le-leb (length xs + 0) limit (omega arith)) (ap (λ l. Some l) (sym (append-nil xs)))
 add_within xs (b ∷ bs) h = refl
+
+-- where nothing is shown, nothing is with more bytes either; with `add_within` this is all of `add` for a page, with
+-- no case of its own for no bytes
+pub add_none : (bs : List ℕ) → add None bs ≡ None
+unfolding add
+add_none [] = refl
+add_none (b ∷ bs) = refl
+
+-- of bytes that a page can hold nothing is shown once too many are added, since these are never no bytes
+pub add_beyond : (xs bs : List ℕ) → length xs ≤ limit → limit < length xs + length bs → add (Some xs) bs ≡ None
+add_beyond xs bs few h = add_full xs bs (omega arith) h
+
+-- one byte or more leaves no more than a page can hold, whatever was shown
+pub within_some : (o : Option (List ℕ)) (b : ℕ) (bs : List ℕ) → Within (add o (b ∷ bs))
+unfolding add
+within_some None b bs = tt
+within_some (Some xs) b bs =
+    cond_both (leb (length xs + length (b ∷ bs)) limit) (Some (xs ++ b ∷ bs)) None Within
+    (λ e. simp length-append (leb-true (length xs + length (b ∷ bs)) limit e)) (λ e. tt)
+
+-- and so does any number of bytes where no more was shown
+pub within_add : (o : Option (List ℕ)) (bs : List ℕ) → Within o → Within (add o bs)
+unfolding add
+within_add o [] h = h
+within_add o (b ∷ bs) h = within_some o b bs
 
 -- one lot after the other is both at once
 pub add-add : (o : Option (List ℕ)) (a b : List ℕ) → add (add o a) b ≡ add o (a ++ b)
@@ -59,5 +84,15 @@ add_step o p a rest whole e f = ap (λ x. add x rest) e ∙ add-add o a rest ∙
 pub add_done : (o : Option (List ℕ)) (rest : List ℕ) → rest ≡ [] → o ≡ add o rest
 add_done o rest e = sym (add_nothing o) ∙ ap (add o) (sym e)
 
--- for the goals of what prints: lots added one after the other, a list of lots, and numbers digit by digit
-pub ruleset printing = (common_steps, add-add, add_nothing, flat_map-append, decimal_digit, decimal_step)
+-- for the goals of what prints: lots added one after the other, a list of lots, numbers digit by digit, and that the
+-- bytes stay within the limit
+pub ruleset printing = (
+  common_steps,
+  add-add,
+  add_nothing,
+  flat_map-append,
+  decimal_digit,
+  decimal_step,
+  within_some,
+  within_add,
+)

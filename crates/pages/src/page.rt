@@ -1,5 +1,6 @@
 // The page: the bytes printed so far, and whether a byte has found no room.
-ghost use Rattle.std.specs.Prelude.{ℕ, cond, List, Some, None, Option};
+ghost use Rattle.std.specs.Prelude.{ℕ, ◌≤◌, cond, List, length, Some, None, Option};
+ghost use Rattle.pages.specs.Limit.{limit};
 
 use std::marker::Model;
 use stores::store::Store;
@@ -23,4 +24,6 @@ impl Model for Page {
     ghost Value = { Option (List ℕ) };
 
     ghost view = { λ p. cond p.over None (Some p.bytes) };
+
+    ghost invariant = { λ p. length p.bytes ≤ limit };
 }

@@ -2,7 +2,7 @@
 ghost use Rattle.std.specs.Prelude.{◌≡◌, [], ◌∷◌, IfOk, Some, decimal};
 ghost use Rattle.std.specs.Iterator.{IsFinite};
 ghost use Rattle.std.specs.Iterator.Runs.{WholeRun};
-ghost use Rattle.pages.specs.Pages.{Prints};
+ghost use Rattle.pages.specs.Pages.{Prints, Within};
 ghost use Rattle.pages.specs.Records.{as_fields, crlf};
 ghost use Rattle.pages.specs.Spaced.{spaced};
 
@@ -44,8 +44,11 @@ impl Page {
 
     /// Prints the bytes, in order.
     pub fn put_all(&mut self, bytes: &[u8])
-        ensures { Prints self.old bytes.now self.new }
+        ensures prints { Prints self.old bytes.now self.new }
+        ensures few { Within self.new }
     {
+        // For the proof alone, which learns here that the bytes are few: where none is added, no `put` says so.
+        let _ = &self.bytes;
         for &b in bytes {
             self.put(b);
         }
@@ -67,8 +70,11 @@ impl Page {
     pub fn put_list<I: Iterator<Item = u32> + Drop>(&mut self, mut numbers: I)
         requires can { I.can_next numbers }
         requires ends { IsFinite (I.remaining numbers) }
-        ensures { WholeRun I.next_gives numbers (λ p. Prints self.old (spaced p.items) self.new) }
+        ensures prints { WholeRun I.next_gives numbers (λ p. Prints self.old (spaced p.items) self.new) }
+        ensures few { Within self.new }
     {
+        // As in `put_all`.
+        let _ = &self.bytes;
         if let Some(first) = numbers.next() {
             self.put_number(first);
             for n in numbers {
@@ -80,8 +86,11 @@ impl Page {
 
     /// Prints numbers as fields of a record, each after a comma.
     pub fn put_fields(&mut self, numbers: &[u32])
-        ensures { Prints self.old (as_fields numbers.now) self.new }
+        ensures prints { Prints self.old (as_fields numbers.now) self.new }
+        ensures few { Within self.new }
     {
+        // As in `put_all`.
+        let _ = &self.bytes;
         for &n in numbers {
             self.put(b',');
             self.put_number(n);

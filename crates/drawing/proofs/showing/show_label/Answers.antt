@@ -16,4 +16,4 @@ returns c =
     (YieldsList-from_copied (YieldsList-at c.copied-values.ensures.source
     (YieldsList-from_slice (listed label.values) cc))) in
     then_add _ _ _ _ _ c.put.ensures
-    (spaced_over _ _ c.put_list.ensures (YieldsList-from_chain one others made.first_done made.second_done))
+    (spaced_over _ _ c.put_list.ensures.prints (YieldsList-from_chain one others made.first_done made.second_done))

@@ -9,7 +9,7 @@ pub returns : goal.returns
 returns c =
     let edges = c.args.edges.now in
     rw (ends_filter edges c.args.state)
-    (spaced_over _ _ c.put_list.ensures
+    (spaced_over _ _ c.put_list.ensures.prints
     (YieldsList-from_map _ (λ e. e.to)
     (YieldsList-at c.map-successors.ensures.source
     (YieldsList-from_filter _ (λ e. e.from == c.args.state)

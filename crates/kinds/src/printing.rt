@@ -1,6 +1,6 @@
 // Kinds whose boxes have a text.
 ghost use Rattle.std.specs.Prelude.{ℕ, List};
-ghost use Rattle.pages.specs.Pages.{Prints};
+ghost use Rattle.pages.specs.Pages.{Prints, Within};
 
 use crate::kind::Kind;
 use pages::page::Page;
@@ -12,5 +12,6 @@ pub trait PrintingKind: Kind {
 
     /// Prints the box, and nothing else, on the page.
     fn print(b: &Self::Box, page: &mut Page)
-        ensures { Prints page.old (text b.now) page.new };
+        ensures prints { Prints page.old (text b.now) page.new }
+        ensures few { Within page.new };
 }

@@ -1,10 +1,12 @@
 -- What a call on a draft answers and leaves, and whether it is refused.
-use Rattle.std.proofs.Common.{◌≡◌, Some, None, Ok, Err, Option, refl, sym, ap}
-use Rattle.flow.specs.Build.{Build}
+use Rattle.std.proofs.Common.{◌≡◌, ℕ, ◌<◌, ◌≤◌, List, length, Some, None, Ok, Err, Option, refl, sym, ap, arith}
+use Rattle.flow.specs.Build.{Build, label}
 use Rattle.flow.specs.Drawn.{added, after, answer, refusal}
 use Rattle.flow.specs.Graph.{Graph}
+use Rattle.flow.specs.Limits.{most_arguments, most_labels}
 use Rattle.flow.specs.Refusals.{leaving, reply}
 use Rattle.flow.specs.declared.refusal.Refusal.{Refusal}
+use Rattle.std.proofs.lemmas.Bool.Decides.{nat_tests}
 
 -- an answer tells whether the call is refused
 module _ {A : Type 0} (g : Graph) (b : Build) (x : A) where
@@ -28,3 +30,10 @@ module _ (g : Graph) (b : Build) where
 
   pub after_accepted : refusal g b ≡ None → added g b ≡ after g b
   after_accepted e = ap (λ o. leaving o g (added g b)) (sym e)
+
+-- an accepted label has few values, and there is room for it
+pub label_small :
+    (g : Graph) (s p : ℕ) (ns : List ℕ) → refusal g (label s p ns) ≡ None
+    → (length ns ≤ most_arguments) × (length g.labels < most_labels)
+unfolding refusal
+label_small g s p ns e = (grind (arith, nat_tests), grind (arith, nat_tests))

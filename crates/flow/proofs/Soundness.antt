@@ -8,7 +8,7 @@ use Rattle.flow.specs.Limits.{most_edges, most_labels}
 use Rattle.flow.specs.Sound.{Joined, Sound}
 use Rattle.flow.specs.declared.edge.Edge.{Edge}
 use Rattle.flow.specs.declared.refusal.Refusal.{Refusal}
-use Rattle.flow.proofs.Refusing.{after_accepted, after_refused, refusal_from_err, refusal_from_ok}
+use Rattle.flow.proofs.Refusing.{after_accepted, after_refused, label_small, refusal_from_err, refusal_from_ok}
 use Rattle.std.proofs.lemmas.Bool.Decides.{nat_tests}
 use Rattle.std.proofs.lemmas.List.{length-map, length_push, map_push}
 use Rattle.std.specs.List.{AllByRecursion}
@@ -86,7 +86,6 @@ module _ {A : Type 0} (g : Graph) (b : Build) (x y : A) where
 -- there is room for an accepted label
 pub label_room : {A : Type 0} (g : Graph) (s p : ℕ) (ns : List ℕ) (x y : A) → Ok y ≡ answer g (label s p ns) x
     → length g.labels < most_labels
-unfolding refusal
-label_room g s p ns x y e = let fine = refusal_from_ok g (label s p ns) x y e in grind (arith, nat_tests)
+label_room g s p ns x y e = (label_small g s p ns (refusal_from_ok g (label s p ns) x y e).0).1
 
 pub ruleset accepted = (after_ok, sound_after_ok, after_err, refusal_from_ok, label_room, length-map, map_push)

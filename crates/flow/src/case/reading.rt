@@ -1,9 +1,10 @@
 // What a case holds.
 ghost use Rattle.std.specs.Prelude.{◌≡◌, ◌≤◌, map, length};
-ghost use Rattle.flow.specs.Facts.{Ordered};
+ghost use Rattle.flow.specs.Facts.{ClosedGraph, Ordered};
 ghost use Rattle.flow.specs.Graph.{successors};
 ghost use Rattle.flow.specs.Held.{label_of, line_of};
 ghost use Rattle.flow.specs.Limits.{most_closed_edges, most_labels, most_lines};
+ghost use Rattle.flow.specs.Sound.{SoundClosed};
 ghost use Rattle.std.specs.List.{slice_get};
 
 use crate::case::Case;
@@ -19,10 +20,13 @@ impl Case {
         self.states
     }
 
-    /// The edges, those that were drawn first.
+    /// The edges, those that were drawn first. Whoever is lent a case learns here what always holds of its graph.
+    #[tactic(auto, using(crate::proofs::Facts::closed_graph))]
     pub fn edges(&self) -> &[Edge]
         ensures drawn { result.now ≡ self.now.graph.edges }
         ensures few { length result.now ≤ most_closed_edges }
+        ensures sound { SoundClosed self.now.graph }
+        ensures closed { ClosedGraph self.now.graph }
     {
         self.edges.as_slice()
     }

@@ -58,7 +58,8 @@ impl Page {
     // No `Display`: a page's memory is got once, and the library says only of a `String`, which grows, what printing
     // leaves.
     pub fn put_number(&mut self, n: u32)
-        ensures { Prints self.old (decimal n) self.new }
+        ensures prints { Prints self.old (decimal n) self.new }
+        ensures few { Within self.new }
     {
         if n >= 10 {
             self.put_number(n / 10);

@@ -58,9 +58,12 @@ impl Kind for Amounts {
     }
 
     fn piece(b: &Span, i: usize) -> Option<Span> {
-        let below = b.low.checked_sub(1).map(|high| Span::new(0, high));
-        let above = b.high.checked_add(1).map(|low| Span::new(low, HIGHEST));
-        below.into_iter().chain(above).nth(i)
+        match (i, b.low.checked_sub(1)) {
+            (0, Some(high)) => Some(Span::new(0, high)),
+            // What lies above is the first piece where nothing lies below.
+            (0, None) | (1, Some(_)) => b.high.checked_add(1).map(|low| Span::new(low, HIGHEST)),
+            _ => None,
+        }
     }
 
     // Spans that differ allow different values, so `==` is what the trait asks; boxes of another kind may not be so.

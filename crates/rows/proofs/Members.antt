@@ -1,13 +1,13 @@
 -- The numbers of a forest.
-use Rattle.std.proofs.Common.{◌≡◌, ℕ, ◌+◌, ◌*◌, ◌/◌, ◌%◌, ◌^◌, ◌<◌, true, false, ◌||◌, ◌↔◌, eqb, List, length, get_or, set, replicate, sym, ap, ◌∙◌, inl, inr, arith}
+use Rattle.std.proofs.Common.{◌≡◌, ℕ, ◌+◌, ◌*◌, ◌/◌, ◌%◌, ◌^◌, ◌<◌, true, false, ◌||◌, ◌↔◌, eqb, List, length, get_or, set, replicate, sym, refl, ap, ◌∙◌, inl, inr, arith}
 use Rattle.kinds.specs.BitSets.{bit-or, bit_past, bit_pow, same_bits}
 use Rattle.kinds.specs.Fragments.{bit}
-use Rattle.rows.proofs.Words.{bit_none, getD_either, getD_zeros}
+use Rattle.rows.proofs.Words.{bit_none, either_assoc, getD_either, getD_zeros}
 use Rattle.rows.specs.Forests.{alike, has, most_witnesses, none, single, union, words, word_bits}
 use Rattle.rows.specs.declared.forest.Forest.{Forest}
 use Rattle.std.proofs.lemmas.Nat.{div-mul-add, mod-mul-add}
 use Rattle.std.proofs.lemmas.List.{ext_get_or, get_or-set_other, get_or-set_same}
-use Rattle.std.proofs.lemmas.Bool.{cases_eq, cases_lt, ne_eqb}
+use Rattle.std.proofs.lemmas.Bool.{cases_Bool, cases_eq, cases_lt, ne_eqb}
 use Rattle.std.proofs.lemmas.Bool.Decides.{nat_tests}
 use Rattle.std.proofs.lemmas.Slice.Eq.{bytes_eq-Decides}
 
@@ -45,10 +45,37 @@ has-union f g n =
     ap (λ x. bit x (n % word_bits)) (getD_either f.words g.words (n / word_bits))
     ∙ bit-or (get_or f.words (n / word_bits) 0) (get_or g.words (n / word_bits) 0) (n % word_bits)
 
+-- unions group either way
+pub union_assoc : (f g h : Forest) → union (union f g) h ≡ union f (union g h)
+unfolding union
+union_assoc f g h = ap (λ ws. record { words = ws }) (either_assoc f.words g.words h.words)
+
 -- forests of the same words are equal
 pub alike_equal : (f g : Forest) → alike f g ≡ true → f ≡ g
 unfolding alike
 alike_equal f g e = ap (λ ws. record { words = ws }) ((bytes_eq-Decides f.words g.words).0 e)
+
+-- a forest has its own words
+pub alike_refl : (f : Forest) → alike f f ≡ true
+unfolding alike
+alike_refl f = (bytes_eq-Decides f.words f.words).1 refl
+
+-- equal forests have the same words
+pub equal_alike : (f g : Forest) → f ≡ g → alike f g ≡ true
+equal_alike f g e = ap (alike f) (sym e) ∙ alike_refl f
+
+-- forests that differ in a word do not
+pub alike_differs : (f g : Forest) (i : ℕ) → (get_or f.words i 0 ≡ get_or g.words i 0 → ⊥) → alike f g ≡ false
+alike_differs f g i ne =
+    elim (cases_Bool (alike f g)) [
+      | inl e ↦ absurd (ne (ap (λ h. get_or h.words i 0) (alike_equal f g e)))
+      | inr e ↦ e
+    ]
+
+-- forests that differ in no word are equal
+pub equal_from_words : (f g : Forest) → length f.words ≡ length g.words
+    → ((k : ℕ) → k < length f.words → get_or f.words k 0 ≡ get_or g.words k 0) → f ≡ g
+equal_from_words f g long each = ap (λ ws. record { words = ws }) (ext_get_or 0 f.words g.words long each)
 
 -- a word has the numbers that it stands for
 has_at : (f : Forest) (i k : ℕ) → k < word_bits → has f (i * word_bits + k) ≡ bit (get_or f.words i 0) k
@@ -59,7 +86,7 @@ has_at f i k h =
     ∙ ap (bit (get_or f.words i 0)) (mod-mul-add i word_bits k h)
 
 -- a word is known by the numbers that it stands for
-word_from_members : (f g : Forest) (i : ℕ)
+pub word_from_members : (f g : Forest) (i : ℕ)
     → get_or f.words i 0 < 2 ^ word_bits → get_or g.words i 0 < 2 ^ word_bits
     → ((n : ℕ) → has f n ≡ has g n) → get_or f.words i 0 ≡ get_or g.words i 0
 word_from_members f g i p q same = same_bits word_bits _ _ p q each

@@ -1,0 +1,3 @@
+-- The numbers are printed by one call, so there is no loop here that keeps anything. The edit that prints them by a
+-- loop and leaves out the spaces, in must-fail/, writes into this file what the loop has to keep, so that the spaces
+-- alone are missing: the numbers after the first, up to here, are printed, each after a space.

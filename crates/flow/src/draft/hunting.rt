@@ -4,7 +4,6 @@ ghost use Rattle.flow.specs.Closed.{leaves};
 ghost use Rattle.flow.specs.Drawn.{is_label};
 ghost use Rattle.flow.specs.Held.{label_of};
 ghost use Rattle.std.specs.List.{list_any};
-ghost use Rattle.stores.specs.Listed.{listed};
 
 use crate::edge::Edge;
 use crate::label::Label;
@@ -16,10 +15,25 @@ pub(super) fn left_from(edges: &[Edge], state: u32) -> bool
     edges.iter().any(|edge| edge.from == state)
 }
 
-// Whether the label is there. Its contract speaks of the labels that are drawn, and not of how they are held.
-pub(super) fn labelled(labels: &[Label], label: &Label) -> bool
-    ensures { let it = label.now in
-        result ≡ list_any (is_label it.state it.predicate (listed it.values)) (map label_of labels.now) }
+// Whether one of the labels, as they are held, is this one. The values come as a slice, which is not cut out anew for
+// each label that is compared with them: so no `contains`.
+fn is_held(labels: &[Label], state: u32, predicate: u32, values: &[u32]) -> bool
+    ensures { result ≡ list_any (λ l. is_label state predicate values.now (label_of l)) labels.now }
 {
-    labels.contains(label)
+    labels.iter().any(
+        |label| -> bool
+            ensures { result ≡ is_label state predicate values.entry.now (label_of label.now) }
+        {
+            label.state == state
+                && label.predicate == predicate
+                && label.values.as_slice() == values
+        },
+    )
+}
+
+// Whether the state has this very label. Its contract speaks of the labels that are drawn, and not of how they are held.
+pub(super) fn labelled(labels: &[Label], state: u32, predicate: u32, values: &[u32]) -> bool
+    ensures { result ≡ list_any (is_label state predicate values.now) (map label_of labels.now) }
+{
+    is_held(labels, state, predicate, values)
 }

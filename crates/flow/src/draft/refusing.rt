@@ -67,7 +67,7 @@ impl Draft {
             predicate,
             values: Arguments::try_from(values)?,
         };
-        if labelled(self.labels.as_slice(), &label) {
+        if labelled(self.labels.as_slice(), state, predicate, values) {
             return Err(Refusal::AlreadyThere);
         }
         if self.labels.is_full() {

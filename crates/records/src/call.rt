@@ -1,12 +1,6 @@
 // The calls that records ask for.
 // They derive no comparison, which would look at each place of the numbers, and at those beyond the count too.
-use crate::letter::MOST_FIELDS;
-
-// The first of the fields is the letter.
-pub const MOST_NUMBERS: usize = MOST_FIELDS - 1;
-
-/// The numbers of a call, in their order.
-pub type Numbers = stores::numbers::Numbers<MOST_NUMBERS>;
+pub use crate::numbers::{MOST_NUMBERS, Numbers};
 
 /// The calls on a draft.
 #[derive(Clone, Copy)]

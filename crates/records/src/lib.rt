@@ -15,6 +15,7 @@ pub mod fault;
 mod form;
 mod letter;
 mod number;
+pub mod numbers;
 
 // The calls that records ask for.
 pub mod call;

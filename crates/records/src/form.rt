@@ -22,7 +22,8 @@ fn has_form(record: &Record, letter: Letter) -> bool
     ensures { result ≡ fits letter (fields «record».now.text.now) }
 {
     let shape = letter.shape();
-    (shape.least..=shape.most).contains(&record.field_count())
+    // One field too many is enough to tell.
+    (shape.least..=shape.most).contains(&record.field_count(shape.most + 1))
         && (!shape.operator || operator_of(record).is_some())
 }
 

@@ -9,11 +9,12 @@ ghost use Rattle.records.specs.declared.fault.Fault.TheVariants.{Number};
 ghost use Rattle.std.specs.Option.{ok_or};
 ghost use Rattle.stores.specs.Listed.{listed};
 
-use crate::call::{DraftCall, Numbers, SheetCall};
+use crate::call::{DraftCall, SheetCall};
 use crate::fault::Fault;
 use crate::form::{letter_of, operator_of};
-use crate::letter::Letter;
+use crate::letter::{Letter, MOST_FIELDS};
 use crate::number::read_number;
+use crate::numbers::Numbers;
 use crate::record::Record;
 
 // The number in a field.
@@ -34,7 +35,7 @@ fn numbers_from(record: &Record, first: u32) -> Result<Numbers, Fault>
 {
     let mut numbers = Numbers::new();
     // By number: a fault names its field by it.
-    for at in first..=record.field_count() as u32 {
+    for at in first..=record.field_count(MOST_FIELDS) as u32 {
         numbers.push(number_at(record, at)?);
     }
     Ok(numbers)

@@ -1,5 +1,5 @@
 // Records and their fields.
-ghost use Rattle.std.specs.Prelude.{◌≡◌, [], length, IfSome, unwrap_or};
+ghost use Rattle.std.specs.Prelude.{◌≡◌, min, [], length, IfSome, unwrap_or};
 ghost use Rattle.records.specs.Texts.{broken, field_at, fields};
 ghost use Rattle.std.specs.Option.{option_map};
 ghost use Rattle.std.specs.List.{slice_get};
@@ -53,11 +53,11 @@ impl<'a> Record<'a> {
         })
     }
 
-    // How many fields there are.
-    pub(crate) fn field_count(&self) -> usize
-        ensures { result ≡ length (fields self.now.text.now) }
+    // How many fields there are, of which no more than `most` are counted: what stands behind those is not read.
+    pub(crate) fn field_count(&self, most: usize) -> usize
+        ensures { result ≡ min most (length (fields self.now.text.now)) }
     {
-        self.text.split(|byte| *byte == b',').count()
+        self.text.split(|byte| *byte == b',').take(most).count()
     }
 
     // The bytes of a field. One that is not there reads as empty: either is no letter, no operator and no number, and

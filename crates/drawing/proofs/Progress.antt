@@ -16,12 +16,12 @@ use Rattle.records.specs.declared.record.Record.{Record}
 use Rattle.std.specs.List.{slice_get}
 
 -- the first of the records that are left
-first_left : (rs : List (List ℕ)) (t : List ℕ) → Some t ≡ slice_get rs 0 → rs ≡ t ∷ drop 1 rs
+pub first_left : (rs : List (List ℕ)) (t : List ℕ) → Some t ≡ slice_get rs 0 → rs ≡ t ∷ drop 1 rs
 first_left [] t e = let z : ◌≡◌ {A = ℕ} 0 1 = cc in absurd (omega arith)
 first_left (r ∷ rs) t e = let same : r ≡ t = cc in ap (λ x. x ∷ rs) same
 
 -- or none
-none_left : (rs : List (List ℕ)) → None ≡ slice_get rs 0 → rs ≡ []
+pub none_left : (rs : List (List ℕ)) → None ≡ slice_get rs 0 → rs ≡ []
 none_left [] e = refl
 none_left (r ∷ rs) e = let z : ◌≡◌ {A = ℕ} 0 1 = cc in absurd (omega arith)
 

@@ -51,7 +51,7 @@ after ms (Ok ns) = Ok (ms ++ ns)
 after ms (Err fault) = Err fault
 
 -- one more of the first
-after_push : (ms : List ℕ) (n : ℕ) (r : Result (List ℕ) Fault) → after ms (onto n r) ≡ after (ms ++ n ∷ []) r
+pub after_push : (ms : List ℕ) (n : ℕ) (r : Result (List ℕ) Fault) → after ms (onto n r) ≡ after (ms ++ n ∷ []) r
 after_push ms n (Ok ns) = ap (λ xs. Ok xs) (sym (append_assoc ms (n ∷ []) ns))
 after_push ms n (Err fault) = refl
 

@@ -27,7 +27,7 @@ value_ge n [] = omega arith
 value_ge n (b ∷ rest) = let more = value_ge (n * 10 + (b - 48)) rest in omega arith
 
 -- what is too large stays too large
-said_large : (n : ℕ) (text : List ℕ) → largest < n → said n text ≡ None
+pub said_large : (n : ℕ) (text : List ℕ) → largest < n → said n text ≡ None
 said_large n text h = let more = value_ge n text in grind (arith, common_steps)
 
 module _ (text : List ℕ) (i n : ℕ) where

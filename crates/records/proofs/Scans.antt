@@ -13,7 +13,7 @@ ahead-records [] h = absurd (omega arith)
 ahead-records (b ∷ rest) h = sym (ahead_none (records (b ∷ rest)) (records_some b rest))
 
 -- one byte more
-broken_more : (xs : List ℕ) (at : ℕ) → at < length xs
+pub broken_more : (xs : List ℕ) (at : ℕ) → at < length xs
     → broken (take (at + 1) xs) ≡ (broken (take at xs) || stray (get_or xs at 0))
 broken_more xs at h = grind (arith, common_steps)
 
@@ -41,7 +41,7 @@ module _ (left : List ℕ) where
       }
 
   -- a byte other than CR belongs to the record
-  within_text : (at : ℕ) (s t : Bool) → at < length left → (get_or left at 0 ≡ 13 → ⊥)
+  pub within_text : (at : ℕ) (s t : Bool) → at < length left → (get_or left at 0 ≡ 13 → ⊥)
       → t ≡ (s || stray (get_or left at 0)) → Within left at s → Within left (at + 1) t
   within_text at s t h other e w = within_more at s t h (and_left _ _ (ne_eqb _ 13 other)) e w
 
@@ -54,7 +54,7 @@ module _ (left : List ℕ) where
       within_more at s true h (and_right _ _ (ne_eqb _ 10 bare)) bad w.within
 
   -- a CR that an LF follows ends the record
-  cut_crlf : (at : ℕ) (s : Bool) → at + 1 < length left → get_or left (at + 1) 0 ≡ 10
+  pub cut_crlf : (at : ℕ) (s : Bool) → at + 1 < length left → get_or left (at + 1) 0 ≡ 10
       → Held left at s → CutAt left at s
   cut_crlf at s h lf w =
       let rest = drop (at + 1 + 1) left in

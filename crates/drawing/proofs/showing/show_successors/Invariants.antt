@@ -1,0 +1,8 @@
+-- No loop stands in this function: `put_list` has it. The one that must-fail/successors_without_spaces.edit plants in
+-- its place has this invariant, so that nothing but the missing spaces stands against it.
+-- use Rattle.std.proofs.Common.{◌≡◌, eqb, length}
+-- use Rattle.drawing.proofs.showing.show_successors.Given as goal
+-- use Rattle.pages.specs.Pages.{Prints}
+-- use Rattle.pages.specs.Spaced.{spaced}
+-- abbrev pub invariant-loop-to : goal.invariant-loop-to
+-- invariant-loop-to l = (l.first ≡ eqb (length l.yielded) 0) × Prints l.initial.page (spaced l.yielded) l.page

@@ -1,3 +1,4 @@
+pub mod Fields
 pub mod Stretches
 pub mod Scans
 pub mod Digits

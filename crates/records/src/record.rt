@@ -1,8 +1,8 @@
 // Records and their fields.
-ghost use Rattle.std.specs.Prelude.{◌≡◌, min, [], length, IfSome, unwrap_or};
+ghost use Rattle.std.specs.Prelude.{◌≡◌, ◌≤◌, min, [], length, IfSome, unwrap_or, ◌==◌};
 ghost use Rattle.records.specs.Texts.{broken, field_at, fields};
 ghost use Rattle.std.specs.Option.{option_map};
-ghost use Rattle.std.specs.List.{slice_get};
+ghost use Rattle.std.specs.List.{position_or_len, slice_get};
 
 /// A record without its CRLF, and its number, from 1. Only the splitter makes one.
 /// `strays` marks it as broken: a CR or LF that is not part of a CRLF, or a double quote, stands in it. The search for
@@ -23,11 +23,28 @@ pub struct Field<'a> {
     pub number: u32,
 }
 
+// Where the first field of a text ends: at its comma, or with the text.
+fn field_end(text: &[u8]) -> usize
+    ensures at { result ≡ position_or_len (λ b. b == 44) text.now }
+    ensures within { result ≤ length text.now }
+{
+    text.iter()
+        .position(|byte| *byte == b',')
+        .unwrap_or(text.len())
+}
+
 // The bytes of the field that has `skip` fields before it.
 fn nth_field(text: &[u8], skip: u32) -> Option<&[u8]>
     ensures { option_map (λ x. x.now) result ≡ slice_get (fields text.now) skip }
 {
-    text.split(|byte| *byte == b',').nth(skip as usize)
+    let mut rest = text;
+    for _ in 0..skip {
+        let [_, others @ ..] = &rest[field_end(rest)..] else {
+            return None;
+        };
+        rest = others;
+    }
+    Some(&rest[..field_end(rest)])
 }
 
 impl<'a> Record<'a> {

@@ -1,14 +1,14 @@
 -- A walk through the denial of a row.
-use Rattle.std.proofs.Common.{subst, ◌≡◌, ℕ, zero, suc, ◌+◌, ◌-◌, ◌<◌, ◌≤◌, Bool, true, false, not, cond, ◌==◌, List, [], ◌∷◌, ◌++◌, drop, length, Option, Some, None, MatchOption, sym, refl, ap, ◌∙◌, inl, inr, arith}
+use Rattle.std.proofs.Common.{subst, ◌≡◌, ℕ, zero, suc, ◌+◌, ◌-◌, ◌<◌, ◌≤◌, Bool, true, false, not, cond, ◌==◌, List, [], ◌∷◌, ◌++◌, map, get_or, drop, length, Option, Some, None, MatchOption, sym, refl, ap, ◌∙◌, inl, inr, arith}
 use Rattle.flow.specs.Limits.{variables}
 use Rattle.kinds.specs.Laws.{Laws}
 use Rattle.kinds.specs.Model.{Model}
 use Rattle.rows.specs.Denials.{besides, besides_from, besides_left, elsewhere, elsewhere_left, left}
 use Rattle.rows.specs.Rows.{blank, box, with_box}
 use Rattle.rows.specs.declared.row.Row.{Row}
-use Rattle.std.proofs.lemmas.List.{length-map}
+use Rattle.std.proofs.lemmas.List.{get_or_default, length-map}
 use Rattle.std.proofs.lemmas.Option.{slice_get_past}
-use Rattle.std.proofs.lemmas.Bool.{cases_lt, le-ltb, lt-ltb}
+use Rattle.std.proofs.lemmas.Bool.{cases_lt, eq-eqb, le-ltb, lt-ltb, ne_eqb}
 use Rattle.std.specs.List.{FoldsTo, range_with_len, flat_map, slice_get}
 use Rattle.std.specs.Iterator.{MakesProgress, Yields, YieldsFirst, YieldsThen, item_count}
 use Rattle.rows.specs.declared.denial.Denial.{Denial}
@@ -18,6 +18,19 @@ use Rattle.std.proofs.iter.Yields.{nat_range_steps}
 use Rattle.std.specs.declared.ops.Range.{Range}
 use denote.Param.Members.{Mut}
 use denote.Ref.{Bor}
+
+module _ {X Y : Type 0} (f : X → Y) where
+  -- what stands at a place has its image there
+  nth_map-some : (xs : List X) (i : ℕ) (x : X) → slice_get xs i ≡ Some x → slice_get (map f xs) i ≡ Some (f x)
+  nth_map-some [] i x e = cc
+  nth_map-some (y ∷ ys) zero x e = cc
+  nth_map-some (y ∷ ys) (suc i) x e = nth_map-some ys i x e
+
+  -- where nothing stands, no image does
+  nth_map-none : (xs : List X) (i : ℕ) → slice_get xs i ≡ None → slice_get (map f xs) i ≡ None
+  nth_map-none [] i e = refl
+  nth_map-none (y ∷ ys) zero e = cc
+  nth_map-none (y ∷ ys) (suc i) e = nth_map-none ys i e
 
 -- what stands at a place comes first from there on
 drop_nth : {X : Type 0} (xs : List X) (i : ℕ) (x : X) → slice_get xs i ≡ Some x → drop i xs ≡ x ∷ drop (i + 1) xs
@@ -104,6 +117,20 @@ module _ {B : Type 0} (m : Model B) (t : Row B) {F : Type 0} (g : Mut F (Bor ℕ
       (λ x e. own_state (blank m x ∷ []) (x == t.state) e) (λ x e. other_state (blank m x ∷ []) (x == t.state) e)
 
 module _ {B : Type 0} (m : Model B) (t : Row B) (x past : ℕ) where
+  -- a piece of the box that was read has its row
+  pub beside_some : (d c : B) → x < length t.boxes → Some c ≡ slice_get (m.pieces (get_or t.boxes x d)) past
+      → Some (with_box m (blank m t.state) x c) ≡ slice_get (besides m t x) past
+  beside_some d c h e =
+      let read = get_or_default t.boxes x m.all d h in
+      sym (nth_map-some _ (m.pieces (box m t x)) past c (ap (λ b. slice_get (m.pieces b) past) read ∙ sym e))
+
+  -- past its last piece there is none
+  pub beside_none : (d : B) → x < length t.boxes → None ≡ slice_get (m.pieces (get_or t.boxes x d)) past
+      → None ≡ slice_get (besides m t x) past
+  beside_none d h e =
+      let read = get_or_default t.boxes x m.all d h in
+      sym (nth_map-none _ (m.pieces (box m t x)) past (ap (λ b. slice_get (m.pieces b) past) read ∙ sym e))
+
   -- a piece of this box is left, and then the later ones
   pub besides_piece : (r : Row B) → x < variables → slice_get (besides m t x) past ≡ Some r
       → besides_from m t x past ≡ r ∷ besides_from m t x (past + 1)
@@ -138,6 +165,64 @@ pub left_beside : {K B : Type 0} (m : Model B) (d e : Denial K B) (r : Option (R
 unfolding left
 left_beside m d e None here there step = (rw (here, step.0) refl, rw (there, step.1) refl)
 left_beside m d e (Some row) here there step = rw (here, there) step
+
+-- the walk, once it has come to the state s
+abbrev pub come_to : {K B : Type 0} → ℕ → Denial K B → Denial K B
+come_to s d = record {
+  of = d.of;
+  states = record { start = s; end = d.states.end };
+  variable = d.variable;
+  piece = d.piece;
+}
+
+-- the walk, once it has come to the piece i of the box of x
+abbrev pub come_beside : {K B : Type 0} → ℕ → ℕ → Denial K B → Denial K B
+come_beside x i d = record { of = d.of; states = d.states; variable = x; piece = i }
+
+-- a state is the next to come
+module _ {K B : Type 0} (m : Model B) (d : Denial K B) (s : ℕ) (e : d.states.start ≡ s) (h : s < d.states.end) where
+  -- its rows, and those of the states after it
+  elsewhere_more : elsewhere_left m d ≡ elsewhere m d.of s ++ elsewhere_left m (come_to (s + 1) d)
+  elsewhere_more =
+      let k : d.states.end - s ≡ suc (d.states.end - (s + 1)) = omega arith in
+      rw e (ap (λ n. flat_map (elsewhere m d.of) (range_with_len s n)) k)
+
+  -- the blank row of another state
+  pub left_elsewhere : (r : Row B) → r ≡ blank m s → (s ≡ d.of.state → ⊥) → left m d ≡ r ∷ left m (come_to (s + 1) d)
+  unfolding left
+  left_elsewhere r b ne = rw (b, elsewhere_more, ne_eqb s d.of.state ne)
+
+  -- the row's own state is passed over
+  pub left_own : s ≡ d.of.state → left m d ≡ left m (come_to (s + 1) d)
+  unfolding left
+  left_own own = rw (elsewhere_more, eq-eqb s d.of.state own)
+
+-- no other state is to come
+module _ {K B : Type 0} (m : Model B) (d : Denial K B) (h : d.states.end ≤ d.states.start) where
+  -- what the boxes leave out is left
+  left_besides : (x i : ℕ) → left m (come_beside x i d) ≡ besides_from m d.of x i
+  unfolding left
+  left_besides x i =
+      let k : d.states.end - d.states.start ≡ 0 = omega arith in
+      ap (λ n. flat_map (elsewhere m d.of) (range_with_len d.states.start n) ++ besides_from m d.of x i) k
+
+  -- a row with a piece of the box at hand
+  pub left_piece : (r : Row B) → d.variable < variables → slice_get (besides m d.of d.variable) d.piece ≡ Some r
+      → left m d ≡ r ∷ left m (come_beside d.variable (d.piece + 1) d)
+  left_piece r l e =
+      left_besides d.variable d.piece ∙ besides_piece m d.of d.variable d.piece r l e
+      ∙ ap (λ rest. r ∷ rest) (sym (left_besides d.variable (d.piece + 1)))
+
+  -- the box at hand has no piece left
+  pub left_next : d.variable < variables → slice_get (besides m d.of d.variable) d.piece ≡ None
+      → left m d ≡ left m (come_beside (d.variable + 1) 0 d)
+  left_next l e =
+      left_besides d.variable d.piece ∙ besides_next m d.of d.variable d.piece l e
+      ∙ sym (left_besides (d.variable + 1) 0)
+
+  -- no box is left
+  pub left_all : variables ≤ d.variable → left m d ≡ []
+  left_all l = left_besides d.variable d.piece ∙ rw (le-ltb d.variable variables l)
 
 -- a step that gives the first of what is left leaves less
 pub nearer_end : {S A : Type 0} (rest : S → List A) (s t : S) (r : Option A) → YieldsFirst rest s r t

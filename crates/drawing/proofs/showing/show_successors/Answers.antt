@@ -5,6 +5,12 @@ use Rattle.pages.proofs.Runs.{spaced_over}
 use Rattle.std.proofs.lemmas.Iterator.{YieldsList-from_map, YieldsList-from_slice}
 use Rattle.std.proofs.lemmas.Iterator.Consumers.{YieldsList-at, YieldsList-from_filter}
 
+-- The loop that must-fail/successors_without_spaces.edit plants keeps its invariant by these lines, which it brings in.
+-- use Rattle.pages.proofs.Adding.{add-add, add_nothing}
+-- use Rattle.std.proofs.lemmas.Grind.{common_steps}
+-- pub loop-to-preserved : goal.loop-to-preserved
+-- loop-to-preserved c = (grind (arith, common_steps), grind (arith, common_steps, add-add, add_nothing))
+
 pub returns : goal.returns
 returns c =
     let edges = c.args.edges.now in

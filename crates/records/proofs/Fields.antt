@@ -1,11 +1,16 @@
--- The fields of a record, one after the other.
-use Rattle.std.proofs.Common.{◌≡◌, ℕ, zero, suc, ◌+◌, ◌-◌, ◌<◌, ◌≤◌, false, cond, ltb, List, [], ◌∷◌, length, take, drop, Some, None, unwrap_or, not, sym, refl, ap, ◌∙◌, inl, inr, arith, ◌==◌}
+-- The fields of a record, one after the other, and the search for the comma behind one.
+use Rattle.std.proofs.Common.{◌≡◌, ℕ, zero, suc, ◌+◌, ◌-◌, ◌<◌, ◌≤◌, Bool, false, true, cond, ltb, not, List, [], ◌∷◌, length, take, drop, Option, Some, None, unwrap_or, Bor, Iter, sym, refl, ap, subst, ◌∙◌, inl, inr, arith, ◌==◌}
+use denote.Param.Members.{Mut}
 use Rattle.std.proofs.lemmas.Bool.{cases_lt, le-leb, lt-leb}
 use Rattle.std.proofs.lemmas.List.{drop-drop, length-drop, take_all}
 use Rattle.std.proofs.lemmas.List.Elements.{All-from_get_or}
 use Rattle.std.proofs.lemmas.List.Splits.{slice_split_first, slice_split_none}
 use Rattle.std.proofs.lemmas.List.Sums.{fails_before_first, prefix_len-le-length}
-use Rattle.std.specs.List.{position_or_len, slice_get}
+use Rattle.std.specs.Fn.{CalledAt}
+use Rattle.std.specs.Iterator.{FindsItem, Yields}
+use Rattle.std.specs.List.{FoldsTo, position_or_len, slice_get}
+use Rattle.std.specs.Option.{MatchOption}
+use Rattle.std.specs.Slice.Iter.{iter_rest, iter_steps}
 use Rattle.records.specs.Texts.{fields}
 
 -- where the first field ends
@@ -49,17 +54,49 @@ module _ (text : List ℕ) where
       ap (λ fs. slice_get fs (suc k)) (slice_split_first (λ b. b == 44) text 0 h)
       ∙ ap (slice_get (fields (drop (end text + 1) text))) e
 
-  -- what stands behind the byte at n, as a match on what stands there has it
-  pub behind : (n : ℕ)
-      → take (length (take (length text - n) (drop n text)) - 1) (drop 1 (take (length text - n) (drop n text)))
-      ≡ drop (n + 1) text
-  behind n =
-      let here = length-drop n text in
-      let next = length-drop 1 (drop n text) in
-      rw (take_all (length text - n) (drop n text) (omega arith))
-      (take_all (length (drop n text) - 1) (drop 1 (drop n text)) (omega arith) ∙ drop-drop 1 n text)
-
   -- where there is no comma, there are none
   pub field_last : (n : ℕ) → 0 < n → length text ≤ end text → slice_get (fields text) n ≡ None
   field_last zero some h = absurd (omega arith)
   field_last (suc k) some h = ap (λ fs. slice_get fs (suc k)) (fields_one h)
+
+-- the search for a comma, from the bytes that are left at s to those that are left at u
+module _ {F : Type 0} {g : Mut F (Bor (Bor ℕ) × Unit {0}) Bool} (f : F)
+    (told : (x : Bor ℕ) (b : Bool) (q : F) → CalledAt g f x b q → (q ≡ f) × (b ≡ (x.now == 44))) where
+  -- it passes over what is no comma
+  passed : (xs : List (Bor ℕ)) (s t : Iter ℕ) (j : F) → Yields iter_steps s xs t
+      → FoldsTo (λ p x q. CalledAt g p x false q) f xs j
+      → (j ≡ f) × (iter_rest t ≡ drop (length xs) (iter_rest s)) × (end (iter_rest s) ≡ length xs + end (iter_rest t))
+  passed [] s t j same folds =
+      let none = ap (λ u. end (iter_rest u)) same in
+      (sym folds, ap iter_rest (sym same), omega (arith, none))
+  passed (x ∷ xs) s t j (m, one, more) (q, goes, folds) =
+      let here = told x false q goes in
+      let on = passed xs m t j more (subst (λ p. FoldsTo (λ p x q. CalledAt g p x false q) p xs j) here.0 folds) in
+      let first = ap end one ∙ ap (λ b. cond (not b) (1 + end (iter_rest m)) 0) (sym here.1) in
+      (on.0, on.1 ∙ ap (drop (length (x ∷ xs))) (sym one), omega (arith, first, on.2))
+
+  -- and stops at the first one, or at the end
+  stops : (s u : Iter ℕ) (r : Option (Bor ℕ)) → FindsItem iter_steps g s f r u
+      → MatchOption r (length (iter_rest s) ≤ end (iter_rest s))
+      (λ _. (end (iter_rest s) < length (iter_rest s)) × (iter_rest u ≡ drop (end (iter_rest s) + 1) (iter_rest s)))
+  stops s u None (xs, j, (t, ys, last), folds, _) =
+      let all = passed xs s t j ys folds in
+      let size = ap length all.1 ∙ length-drop (length xs) (iter_rest s) in
+      omega (arith, all.2, size, last.0)
+  stops s u (Some x) (xs, j, (t, ys, one), folds, (h, stop)) =
+      let all = passed xs s t j ys folds in
+      let size = ap length all.1 ∙ length-drop (length xs) (iter_rest s) in
+      let comma = (told x true h (subst (λ p. CalledAt g p x true h) all.0 stop)).1 in
+      let here = ap end one ∙ ap (λ b. cond (not b) (1 + end (iter_rest u)) 0) (sym comma) in
+      let left = ap length one in
+      let at : length xs ≡ end (iter_rest s) = omega (arith, all.2, here) in
+      let behind = ap (drop 1) (sym one) ∙ ap (drop 1) all.1 ∙ drop-drop 1 (length xs) (iter_rest s) in
+      (omega (arith, at, size, left), behind ∙ ap (λ k. drop (k + 1) (iter_rest s)) at)
+
+  pub comma_found : (s u : Iter ℕ) (r : Option (Bor ℕ)) (x : Bor ℕ) → FindsItem iter_steps g s f r u → r ≡ Some x
+      → (end (iter_rest s) < length (iter_rest s)) × (iter_rest u ≡ drop (end (iter_rest s) + 1) (iter_rest s))
+  comma_found s u r x ran is = stops s u (Some x) (subst (λ o. FindsItem iter_steps g s f o u) is ran)
+
+  pub no_comma : (s u : Iter ℕ) (r : Option (Bor ℕ)) → FindsItem iter_steps g s f r u → r ≡ None
+      → length (iter_rest s) ≤ end (iter_rest s)
+  no_comma s u r ran is = stops s u None (subst (λ o. FindsItem iter_steps g s f o u) is ran)

@@ -37,13 +37,11 @@ fn field_end(text: &[u8]) -> usize
 fn nth_field(text: &[u8], skip: u32) -> Option<&[u8]>
     ensures { option_map (λ x. x.now) result ≡ slice_get (fields text.now) skip }
 {
-    let mut rest = text;
+    let mut bytes = text.iter();
     for _ in 0..skip {
-        let [_, others @ ..] = &rest[field_end(rest)..] else {
-            return None;
-        };
-        rest = others;
+        bytes.find(|byte| **byte == b',')?;
     }
+    let rest = bytes.as_slice();
     Some(&rest[..field_end(rest)])
 }
 

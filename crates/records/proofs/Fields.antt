@@ -59,6 +59,11 @@ module _ (text : List ℕ) where
   field_last zero some h = absurd (omega arith)
   field_last (suc k) some h = ap (λ fs. slice_get fs (suc k)) (fields_one h)
 
+-- what is left at u stands behind the first comma of what was left at s, where there is one
+abbrev pub Behind : Iter ℕ → Iter ℕ → Type 0
+Behind s u =
+    (end (iter_rest s) < length (iter_rest s)) × (iter_rest u ≡ drop (end (iter_rest s) + 1) (iter_rest s))
+
 -- the search for a comma, from the bytes that are left at s to those that are left at u
 module _ {F : Type 0} {g : Mut F (Bor (Bor ℕ) × Unit {0}) Bool} (f : F)
     (told : (x : Bor ℕ) (b : Bool) (q : F) → CalledAt g f x b q → (q ≡ f) × (b ≡ (x.now == 44))) where
@@ -77,8 +82,7 @@ module _ {F : Type 0} {g : Mut F (Bor (Bor ℕ) × Unit {0}) Bool} (f : F)
 
   -- and stops at the first one, or at the end
   stops : (s u : Iter ℕ) (r : Option (Bor ℕ)) → FindsItem iter_steps g s f r u
-      → MatchOption r (length (iter_rest s) ≤ end (iter_rest s))
-      (λ _. (end (iter_rest s) < length (iter_rest s)) × (iter_rest u ≡ drop (end (iter_rest s) + 1) (iter_rest s)))
+      → MatchOption r (length (iter_rest s) ≤ end (iter_rest s)) (λ _. Behind s u)
   stops s u None (xs, j, (t, ys, last), folds, _) =
       let all = passed xs s t j ys folds in
       let size = ap length all.1 ∙ length-drop (length xs) (iter_rest s) in
@@ -93,10 +97,12 @@ module _ {F : Type 0} {g : Mut F (Bor (Bor ℕ) × Unit {0}) Bool} (f : F)
       let behind = ap (drop 1) (sym one) ∙ ap (drop 1) all.1 ∙ drop-drop 1 (length xs) (iter_rest s) in
       (omega (arith, at, size, left), behind ∙ ap (λ k. drop (k + 1) (iter_rest s)) at)
 
+  -- what was found is the first comma
   pub comma_found : (s u : Iter ℕ) (r : Option (Bor ℕ)) (x : Bor ℕ) → FindsItem iter_steps g s f r u → r ≡ Some x
-      → (end (iter_rest s) < length (iter_rest s)) × (iter_rest u ≡ drop (end (iter_rest s) + 1) (iter_rest s))
+      → Behind s u
   comma_found s u r x ran is = stops s u (Some x) (subst (λ o. FindsItem iter_steps g s f o u) is ran)
 
+  -- and where nothing was, there is none
   pub no_comma : (s u : Iter ℕ) (r : Option (Bor ℕ)) → FindsItem iter_steps g s f r u → r ≡ None
       → length (iter_rest s) ≤ end (iter_rest s)
   no_comma s u r ran is = stops s u None (subst (λ o. FindsItem iter_steps g s f o u) is ran)

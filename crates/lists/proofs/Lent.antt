@@ -1,5 +1,6 @@
 -- The table that lent rows stand for: its limit, its lists and where their rows lie.
-use Rattle.std.proofs.Common.{◌≡◌, ℕ, suc, ◌+◌, ◌*◌, ◌<◌, ◌≤◌, List, length, get_or, set, take, drop, replicate, refl, ap, ◌∙◌, ⊎_elim, mul-le-mul_right, suc-mul, arith}
+use Rattle.std.proofs.Common.{◌≡◌, ℕ, suc, ◌+◌, ◌*◌, ◌<◌, ◌≤◌, List, length, get_or, set, take, drop, replicate, refl, sym, ap, ◌∙◌, ⊎_elim, mul-le-mul_right, suc-mul, arith}
+use Rattle.lists.specs.Changes.{Puts}
 use Rattle.lists.specs.Counts.{list_count}
 use Rattle.lists.specs.Lent.{cut, room_for, table_in}
 use Rattle.lists.specs.Tables.{at, no_rows}
@@ -57,6 +58,10 @@ module _ {R : Type 0} (l : Lists R) where
     -- a list with room has a place behind its last row
     pub end_place : length (at (table_in l) i) < l.limit → i * l.limit + get_or l.lengths i 0 < length l.rows.now
     end_place room = place_in (get_or l.lengths i 0) (omega (arith, length-at_table))
+
+-- a list that is written leaves how many rows a list may have
+pub puts_limit : {R : Type 0} {l l' : Lists R} {i : ℕ} {rows : List R} → Puts l l' i rows → l'.limit ≡ l.limit
+puts_limit {l = l} {l' = l'} did = sym (table_limit l') ∙ ap (λ t. t.limit) did.puts ∙ table_limit l
 
 -- a length that changes stays within the limit
 pub within_set : (ns : List ℕ) (i n limit : ℕ) → ((j : ℕ) → get_or ns j 0 ≤ limit) → n ≤ limit → i < length ns

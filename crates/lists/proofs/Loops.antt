@@ -31,6 +31,7 @@ pub record Looped {B Z : Type 0} (m : Model B) (l0 l : Lists (Row B)) (dest : �
     (i : ℕ) : Type 0 where
   pub same_rows : l.rows.ghost_name ≡ l0.rows.ghost_name
   pub as_many : length l.rows.now ≡ length l0.rows.now
+  pub same_limit : l.limit ≡ l0.limit
   pub walk : Walked m (table_in l0) (table_in l) dest (rest_from f zs i) (flat_map f zs)
 
 module _ {B Z : Type 0} {m : Model B} {l0 : Lists (Row B)} {dest : ℕ} {f : Z → List (Row B)} {zs : List Z} where
@@ -50,6 +51,7 @@ module _ {B Z : Type 0} {m : Model B} {l0 : Lists (Row B)} {dest : ℕ} {f : Z �
         record {
           same_rows = loop.same_rows;
           as_many = loop.as_many;
+          same_limit = loop.same_limit;
           adds = walk_all loop.walk (rest_all f zs i past);
         }
 
@@ -64,6 +66,7 @@ module _ {B Z : Type 0} {m : Model B} {l0 : Lists (Row B)} {dest : ℕ} {f : Z �
           record {
             same_rows = did.same_rows ∙ loop.same_rows;
             as_many = did.as_many ∙ loop.as_many;
+            same_limit = did.same_limit ∙ loop.same_limit;
             walk = walk_more loop.walk (table_has l0 known) xs (rest_from f zs (i + 1)) next did.adds;
           }
 
@@ -74,6 +77,7 @@ module _ {B Z : Type 0} {m : Model B} {l0 : Lists (Row B)} {dest : ℕ} {f : Z �
           record {
             same_rows = did.same_rows ∙ loop.same_rows;
             as_many = did.as_many ∙ loop.as_many;
+            same_limit = did.same_limit ∙ loop.same_limit;
             adds = stopped r _ by (walk_stop loop.walk (table_has l0 known) xs (rest_from f zs (i + 1)) next did.adds);
           }
 
@@ -83,5 +87,6 @@ module _ {B Z : Type 0} {m : Model B} {l0 : Lists (Row B)} {dest : ℕ} {f : Z �
         record {
           same_rows = loop.same_rows;
           as_many = loop.as_many;
+          same_limit = loop.same_limit;
           walk = walk_skip loop.walk (rest_more f zs i z below read ∙ ap (λ rs. rs ++ rest_from f zs (i + 1)) none);
         }

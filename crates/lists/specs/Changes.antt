@@ -18,6 +18,7 @@ pub record Puts {R : Type 0} (l l' : Lists R) (i : ℕ) (rows : List R) : Type 0
 pub record Adds {B A : Type 0} (m : Model B) (result : Result A Shortage) (l l' : Lists (Row B)) (i : ℕ)
     (rows : List (Row B)) : Type 0 where
   pub same_rows : l'.rows.ghost_name ≡ l.rows.ghost_name
-  -- as many rows are lent as were, after a refusal too
+  -- as many rows are lent as were, and each list may have as many as it might, after a refusal too
   pub as_many : length l'.rows.now ≡ length l.rows.now
+  pub same_limit : l'.limit ≡ l.limit
   pub adds : left_by result (table_in l') ≡ adding m (table_in l) i rows

@@ -7,7 +7,7 @@ ghost use Rattle.logic.specs.Shortages.{number as numbered};
 pub enum Shortage {
     /// A row is new to a list that is full.
     Rows = 11,
-    /// A witness is new, and there are as many as there may be.
+    /// A witness is new, and there are as many as there may be, or as many as the table has room for.
     Witnesses = 12,
 }
 

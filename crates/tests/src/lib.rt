@@ -1,8 +1,10 @@
-// Tests of what the other crates do on examples: boxes, rows, the limits of a case, broken and odd records.
+// Tests of what the other crates do on examples: boxes, rows, witnesses, the limits of a case, broken and odd records.
 #![tactic(auto)]
 
 #[cfg(test)]
 mod boxes;
+#[cfg(test)]
+mod forming;
 #[cfg(test)]
 mod holding;
 #[cfg(test)]

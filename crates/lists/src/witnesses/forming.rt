@@ -1,6 +1,6 @@
 // Forming witnesses.
-ghost use Rattle.std.specs.Prelude.{◌≡◌, ◌≤◌, length};
-ghost use Rattle.lists.specs.Formed.{Forms, formed_in};
+ghost use Rattle.std.specs.Prelude.{◌≡◌, ◌≤◌, length, OnErr};
+ghost use Rattle.lists.specs.Formed.{Forms, FormsWithin, formed_in};
 ghost use Rattle.logic.specs.Witnessing.{number_from};
 ghost use Rattle.rows.specs.Forests.{most_witnesses};
 ghost use Rattle.rows.specs.Witnesses.{equal_witness};
@@ -23,16 +23,18 @@ impl<'a, B: Copy> Witnesses<'a, Witness<B>> {
     }
 
     /// Forms a witness and answers its number: an equal one keeps its number, any other gets the next. Refuses one too
-    /// many.
+    /// many, for any table or for this one, and leaves all as it was then.
     pub fn form<K: Kind<Box = B>>(&mut self, witness: Witness<B>) -> Result<u8, Shortage>
-        requires { most_witnesses ≤ length self.old.table.now }
-        ensures { Forms K.model result self.old self.new witness }
+        ensures within { FormsWithin K.model result self.old self.new witness }
+        ensures fits { most_witnesses ≤ length self.old.table.now → Forms K.model result self.old self.new witness }
+        ensures kept { OnErr result (formed_in self.new ≡ formed_in self.old) }
+        ensures as_it_was { OnErr result (self.new.table.now ≡ self.old.table.now) }
     {
         if let Some(n) = self.number::<K>(&witness) {
             return Ok(n as u8);
         }
         let n = self.count;
-        if n >= MOST_WITNESSES {
+        if n >= MOST_WITNESSES.min(self.table.len()) {
             return Err(Shortage::Witnesses);
         }
         self.table[n] = witness;

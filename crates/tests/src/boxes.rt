@@ -8,13 +8,16 @@ use pages::page::Page;
 use std::process::Abort;
 use std::test::*;
 
-// Whether the box prints so.
+// Whether the box prints so, by either call.
 fn prints<K: PrintingKind>(
     rt: &(impl Abort + AllocGlobal),
     b: &K::Box,
     text: &[u8],
 ) -> Result<(), Fail> {
     let mut page = Page::new(rt.alloc())?;
+    K::print_within(b, &mut page);
+    assert!(rt; page.text().ok_or("too long")? == text);
+    page.clear();
     K::print(b, &mut page);
     assert!(rt; page.text().ok_or("too long")? == text);
     Ok(())
